@@ -6,6 +6,7 @@ ghost use Rattle.std.specs.Orderings.{Decides};
 ghost use Rattle.std.specs.Written.{decimal};
 ghost use Rattle.std.specs.declared.option.Option.the-variants.{Some};
 ghost use Rattle.refusal.specs.Numbers.{number-of, meaning-of};
+use std::error::Error;
 use std::fmt;
 
 /// Why a call was refused. A refused call has changed nothing.
@@ -104,3 +105,5 @@ pub impl PartialEq<Refusal> for Refusal as RefusalPartialEq {
         self.number() == other.number()
     }
 }
+
+pub impl Error for Refusal as RefusalError {}
