@@ -89,16 +89,16 @@ counts : (d : ℕ) (xs : List ℕ) → rises xs ≡ true → (k : ℕ) → k < l
 counts d [] up k h = absurd (omega arith)
 counts d (x ∷ xs) up zero h =
     elim (cases-lt d x) [
-      inl below ↦ let none = first-missed d x xs up below in (λ lt. omega arith, λ le. omega arith)
-    | inr from ↦ let one = reached-yes d x xs from in (λ lt. from, λ le. omega arith)
+      | inl below ↦ let none = first-missed d x xs up below in (λ lt. omega arith, λ le. omega arith)
+      | inr from ↦ let one = reached-yes d x xs from in (λ lt. from, λ le. omega arith)
     ]
 counts d (x ∷ xs) up (suc k) h =
     let parts = and-parts (above x xs) (rises xs) up in
     let rest = counts d xs (parts .1) k (omega arith) in
     let far = above-each x xs (parts .0) k (omega arith) in
     elim (cases-lt d x) [
-      inl below ↦ let none = first-missed d x xs up below in (λ lt. omega arith, λ le. omega arith)
-    | inr from ↦ let one = reached-yes d x xs from in (λ lt. rest .0 (omega arith), λ le. omega (arith, rest .1 le))
+      | inl below ↦ let none = first-missed d x xs up below in (λ lt. omega arith, λ le. omega arith)
+      | inr from ↦ let one = reached-yes d x xs from in (λ lt. rest .0 (omega arith), λ le. omega (arith, rest .1 le))
     ]
 
 -- the starts of the IMP scale rise

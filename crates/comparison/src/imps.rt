@@ -15,7 +15,30 @@ pub struct Imps;
 
 /// Where each step of the scale starts.
 const STARTS: [u16; 24] = [
-    20, 50, 90, 130, 170, 220, 270, 320, 370, 430, 500, 600, 750, 900, 1100, 1300, 1500, 1750, 2000, 2250, 2500, 3000, 3500, 4000,
+    20,
+    50,
+    90,
+    130,
+    170,
+    220,
+    270,
+    320,
+    370,
+    430,
+    500,
+    600,
+    750,
+    900,
+    1100,
+    1300,
+    1500,
+    1750,
+    2000,
+    2250,
+    2500,
+    3000,
+    3500,
+    4000,
 ];
 
 impl Imps {
@@ -36,8 +59,11 @@ impl Imps {
 
 pub impl Comparison for Imps as ImpsComparison {
     const TIE_VALUE: u16 = 0;
+
     const LIFT: u32 = 10;
+
     const SCALE: u8 = 1;
+
     const CODE: u8 = 2;
 
     ghost way = { λ _. imps };

@@ -3,6 +3,7 @@ mod imps;
 mod matchpoints;
 mod total_points;
 mod way;
+
 pub use imps::Imps;
 pub use imps::ImpsComparison;
 pub use matchpoints::Matchpoints;

@@ -11,8 +11,11 @@ pub struct Matchpoints;
 
 pub impl Comparison for Matchpoints as MatchpointsComparison {
     const TIE_VALUE: u16 = 1;
+
     const LIFT: u32 = 1;
+
     const SCALE: u8 = 50;
+
     const CODE: u8 = 1;
 
     ghost way = { λ _. matchpoints };

@@ -11,8 +11,11 @@ pub struct TotalPoints;
 
 pub impl Comparison for TotalPoints as TotalPointsComparison {
     const TIE_VALUE: u16 = 0;
+
     const LIFT: u32 = 500;
+
     const SCALE: u8 = 1;
+
     const CODE: u8 = 3;
 
     ghost way = { λ _. total-points };

@@ -36,8 +36,11 @@ macro_rules! constants_of {
 /// A way of comparing two scores. It means a `Way`, and no implementation exists without the laws of one.
 pub trait Comparison {
     const TIE_VALUE: u16;
+
     const LIFT: u32;
+
     const SCALE: u8;
+
     const CODE: u8;
 
     ghost way: { Self → Way };

@@ -18,8 +18,8 @@ loop-start-again c =
     let i = c .loop-start .start-index in
     let within = c .loop-start-test .taken in
     elim (c .if-start-difference .came) [
-      then-start-difference w ↦ let more = reached-more-yes d imp-starts i within (w .if-start-difference .taken) in (omega (arith, w .step-is), w .step-is ∙ ap (λ n. n + 1) (c .loop-start .inv .1) ∙ sym more)
-    | else-start-difference w ↦ let more = reached-more-no d imp-starts i within (w .if-start-difference .left) in (omega (arith, w .step-is), w .step-is ∙ c .loop-start .inv .1 ∙ sym more)
+      | then-start-difference w ↦ let more = reached-more-yes d imp-starts i within (w .if-start-difference .taken) in (omega (arith, w .step-is), w .step-is ∙ ap (λ n. n + 1) (c .loop-start .inv .1) ∙ sym more)
+      | else-start-difference w ↦ let more = reached-more-no d imp-starts i within (w .if-start-difference .left) in (omega (arith, w .step-is), w .step-is ∙ c .loop-start .inv .1 ∙ sym more)
     ]
 
 pub returns : need.returns

@@ -1,0 +1,13 @@
+// The figures that are proved of the definitions.
+ghost use mathlib.Core.Path.{_≡_};
+ghost use lib.ListN.{length};
+ghost use Rattle.std.specs.shelf.Lists.{All};
+ghost use Rattle.trials.specs.Figures.{worked};
+
+/// How many figures the list has. Each of them is what the definitions give.
+pub fn worked_figures() -> u8
+    ensures hold { λ _. ⌜ All (λ f. f .0 ≡ f .1) worked ⌝ }
+    ensures count { λ r. ⌜ r ≡ length worked ⌝ }
+{
+    9
+}
