@@ -6,18 +6,18 @@ use mathlib.Core.Path.{_≡_, refl, _∙_}
 use Prim.Native.Nat.{ℕ, zero, suc, _+_, _≤_, _<_}
 use native.Mathlib.Omega.{arith}
 use lib.Dec.{leb, ltb}
-use lib.ListN.{length, getD, take}
+use lib.ListN.{length, getD}
 use Rattle.std.specs.shelf.Lists.{countBy}
-use Rattle.std.proofs.shelf.Sums.{sumBy-cons, countBy-le-length, countBy-more-yes, countBy-more-no}
+use Rattle.std.proofs.shelf.Sums.{sumBy-cons, countBy-le-length}
 use Rattle.std.proofs.shelf.Tests.{and-parts, cases-lt, le-leb, lt-leb, ltb-true}
 use Rattle.std.proofs.shelf.Ways.{tells}
 use Rattle.comparison.specs.Ways.{imp-starts, imp-step}
 
 -- how many of the starts a difference reaches
-pub reached : ℕ → List ℕ → ℕ
+reached : ℕ → List ℕ → ℕ
 reached d starts = countBy (λ start. leb start d) starts
 
-pub reached-none : (d : ℕ) → reached d [] ≡ 0
+reached-none : (d : ℕ) → reached d [] ≡ 0
 unfolding reached
 reached-none d = refl
 
@@ -31,22 +31,9 @@ reached-yes d x xs h = let e = le-leb x d h in rw (reached-cons d x xs, e)
 reached-no : (d x : ℕ) (xs : List ℕ) → d < x → reached d (x ∷ xs) ≡ reached d xs
 reached-no d x xs h = let e = lt-leb x d h in rw (reached-cons d x xs, e) (omega arith)
 
--- one start more
-pub reached-more-yes : (d : ℕ) (xs : List ℕ) (i : ℕ) → i < length xs → getD xs i 0 ≤ d → reached d (take (i + 1) xs) ≡ reached d (take i xs) + 1
-unfolding reached
-reached-more-yes d xs i h le = countBy-more-yes (λ start. leb start d) xs i 0 h (le-leb (getD xs i 0) d le)
-
-pub reached-more-no : (d : ℕ) (xs : List ℕ) (i : ℕ) → i < length xs → d < getD xs i 0 → reached d (take (i + 1) xs) ≡ reached d (take i xs)
-unfolding reached
-reached-more-no d xs i h lt = countBy-more-no (λ start. leb start d) xs i 0 h (lt-leb (getD xs i 0) d lt)
-
 reached-rising : (m n : ℕ) → m ≤ n → (xs : List ℕ) → reached m xs ≤ reached n xs
 reached-rising m n h [] = omega (arith, reached-none m)
 reached-rising m n h (x ∷ xs) = let rest = reached-rising m n h xs in grind (arith, tells, reached-cons)
-
-pub step-is : (n : ℕ) → imp-step n ≡ reached n imp-starts
-unfolding imp-step reached
-step-is n = refl
 
 pub step-rising : (m n : ℕ) → m ≤ n → imp-step m ≤ imp-step n
 unfolding imp-step reached

@@ -7,12 +7,12 @@ use comparison::Matchpoints;
 use comparison::MatchpointsComparison;
 use comparison::TotalPoints;
 use comparison::TotalPointsComparison;
-use scoring::Contract;
+use contract::Contract;
+use contract::Vulnerability;
 use scoring::MadeScore;
 use scoring::Outcome;
 use scoring::Score;
 use scoring::Undertricks;
-use scoring::Vulnerability;
 use std::io;
 
 #[derive(Clone, Copy)]
@@ -25,8 +25,8 @@ pub(crate) struct Board<'a> {
 impl Board<'_> {
     fn score(&self, result: Option<Contract>) -> Score {
         match result {
-            Some(contract) => contract.score(self.number),
-            None => Score::PASSED_OUT,
+            Some(contract) => Score::of_contract(contract, self.number),
+            None => Score::passed_out(),
         }
     }
 
@@ -52,7 +52,7 @@ impl Board<'_> {
             Some(contract) => {
                 print_contract(rt, table, contract)?;
                 let vulnerable = Vulnerability::of_board(self.number).applies_to(contract.declarer);
-                match contract.outcome(vulnerable) {
+                match Outcome::of(contract, vulnerable) {
                     Outcome::Made(parts) => print_made(rt, parts)?,
                     Outcome::Down(undertricks) => print_down(rt, undertricks)?,
                 }

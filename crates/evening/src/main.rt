@@ -3,14 +3,14 @@ mod board;
 mod words;
 
 use board::Board;
+use contract::Contract;
+use contract::Declarer;
+use contract::Denomination;
+use contract::Doubling;
 use refusal::Refusal;
 use refusal::RefusalDebug;
 use refusal::RefusalDisplay;
 use refusal::RefusalError;
-use scoring::Contract;
-use scoring::Declarer;
-use scoring::Denomination;
-use scoring::Doubling;
 use std::error::AnyError;
 
 // What came in from the tables on board 7; `None` is a board that was passed out.

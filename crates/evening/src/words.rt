@@ -1,8 +1,8 @@
 // The words of the game, as they are printed.
-use scoring::Declarer;
-use scoring::Denomination;
-use scoring::Doubling;
-use scoring::Vulnerability;
+use contract::Declarer;
+use contract::Denomination;
+use contract::Doubling;
+use contract::Vulnerability;
 
 pub(crate) fn declarer(d: Declarer) -> &'static str {
     match d {

@@ -5,8 +5,8 @@ use Prim.Native.Nat.{ℕ, zero, suc, _+_, _*_, _≤_, _<_}
 use native.Mathlib.Numerals.{add-one}
 use native.Mathlib.Omega.{arith}
 use lib.Dec.{leb, lit≤}
-use Rattle.scoring.specs.declared.contract.Doubling.{Doubling}
-use Rattle.scoring.specs.declared.contract.Doubling.the-variants.{Undoubled, Doubled, Redoubled}
+use Rattle.contract.specs.declared.contract.Doubling.{Doubling}
+use Rattle.contract.specs.declared.contract.Doubling.the-variants.{Undoubled, Doubled, Redoubled}
 use Rattle.scoring.specs.Law.{doubled-undertrick, undertrick, penalty}
 use Rattle.std.proofs.shelf.Ways.{tells}
 

@@ -4,14 +4,14 @@ use mathlib.Core.Path.{_≡_}
 use Prim.Native.Nat.{ℕ, zero, suc, _+_, _-_, _*_, _≤_, _<_}
 use lib.Dec.{eqb, leb}
 use lib.IntN.{ℤ, pos, negℤ}
-use Rattle.scoring.specs.declared.contract.Contract.{Contract}
-use Rattle.scoring.specs.declared.contract.Denomination.{Denomination}
-use Rattle.scoring.specs.declared.contract.Denomination.the-variants.{Clubs, Diamonds, Hearts, Spades, NoTrump}
-use Rattle.scoring.specs.declared.contract.Doubling.{Doubling}
-use Rattle.scoring.specs.declared.contract.Doubling.the-variants.{Undoubled, Doubled, Redoubled}
+use Rattle.contract.specs.declared.contract.Contract.{Contract}
+use Rattle.contract.specs.declared.contract.Denomination.{Denomination}
+use Rattle.contract.specs.declared.contract.Denomination.the-variants.{Clubs, Diamonds, Hearts, Spades, NoTrump}
+use Rattle.contract.specs.declared.contract.Doubling.{Doubling}
+use Rattle.contract.specs.declared.contract.Doubling.the-variants.{Undoubled, Doubled, Redoubled}
 use Rattle.scoring.specs.declared.outcome.Outcome.{Outcome}
 use Rattle.scoring.specs.declared.outcome.Outcome.the-variants.{Made, Down}
-use Rattle.scoring.specs.Vulnerable.{vulnerability-of, vulnerable, north-south}
+use Rattle.contract.specs.Vulnerable.{vulnerability-of, vulnerable, north-south}
 
 -- tricks that the contract needs
 abbrev pub needed : Contract → ℕ
@@ -96,7 +96,7 @@ abbrev pub outcome-points : Outcome → ℤ
 outcome-points (Made m) = pos (m .«trick_points» + m .«game_premium» + m .«slam_premium» + m .«insult_premium» + m .«overtrick_points»)
 outcome-points (Down u) = negℤ (pos (u .penalty))
 
-abbrev pub declarer-score : Bool → Contract → ℤ
+unfoldable pub declarer-score : Bool → Contract → ℤ
 declarer-score v c = cond (leb (needed c) (c .tricks)) (pos (made-score v c)) (negℤ (pos (penalty v (c .doubling) (needed c - c .tricks))))
 
 -- the score for North-South

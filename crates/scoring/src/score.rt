@@ -1,4 +1,5 @@
 ghost use mathlib.Core.Path.{_≡_};
+ghost use lib.IntN.{pos};
 ghost use Rattle.std.specs.Options.{Cases};
 ghost use Rattle.scoring.specs.Range.{Score-range};
 
@@ -10,7 +11,12 @@ pub struct Score {
 }
 
 impl Score {
-    pub const PASSED_OUT: Score = Score { points: 0 };
+    /// A passed board scores nothing.
+    pub fn passed_out() -> Score
+        ensures { λ r. ⌜ r .points ≡ pos 0 ⌝ }
+    {
+        Score { points: 0 }
+    }
 
     pub fn new(points: i16) -> Option<Score>
         ensures { λ r. ⌜ Cases r (Score-range points → ⊥) (λ s. s .points ≡ points) ⌝ }

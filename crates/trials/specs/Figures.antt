@@ -3,12 +3,12 @@ use mathlib.Core.List.{List, [], _∷_}
 use Prim.Native.Nat.{ℕ}
 use lib.Dec.{T, leb, lit≤}
 use lib.IntN.{ℤ, pos, negℤ}
-use Rattle.scoring.specs.declared.contract.Contract.{Contract}
-use Rattle.scoring.specs.declared.contract.Declarer.the-variants.{North}
-use Rattle.scoring.specs.declared.contract.Denomination.{Denomination}
-use Rattle.scoring.specs.declared.contract.Denomination.the-variants.{Diamonds, Hearts, Spades, NoTrump}
-use Rattle.scoring.specs.declared.contract.Doubling.{Doubling}
-use Rattle.scoring.specs.declared.contract.Doubling.the-variants.{Undoubled, Doubled, Redoubled}
+use Rattle.contract.specs.declared.contract.Contract.{Contract}
+use Rattle.contract.specs.declared.contract.Declarer.the-variants.{North}
+use Rattle.contract.specs.declared.contract.Denomination.{Denomination}
+use Rattle.contract.specs.declared.contract.Denomination.the-variants.{Diamonds, Hearts, Spades, NoTrump}
+use Rattle.contract.specs.declared.contract.Doubling.{Doubling}
+use Rattle.contract.specs.declared.contract.Doubling.the-variants.{Undoubled, Doubled, Redoubled}
 use Rattle.scoring.specs.Law.{score-on}
 use Rattle.comparison.specs.Ways.{imp-step}
 

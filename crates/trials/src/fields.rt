@@ -1,9 +1,9 @@
 // The words of a row, one after the other.
-use scoring::Declarer;
-use scoring::Denomination;
-use scoring::Doubling;
+use contract::Declarer;
+use contract::Denomination;
+use contract::Doubling;
+use contract::Vulnerability;
 use scoring::Score;
-use scoring::Vulnerability;
 use std::error::AnyError;
 use std::str::SplitWhitespace;
 

@@ -9,16 +9,16 @@ use comparison::Matchpoints;
 use comparison::MatchpointsComparison;
 use comparison::TotalPoints;
 use comparison::TotalPointsComparison;
+use contract::Contract;
+use contract::Declarer;
+use contract::Denomination;
+use contract::Doubling;
+use contract::Vulnerability;
 use refusal::Refusal;
 use refusal::RefusalDebug;
 use refusal::RefusalDisplay;
 use refusal::RefusalError;
-use scoring::Contract;
-use scoring::Declarer;
-use scoring::Denomination;
-use scoring::Doubling;
 use scoring::Score;
-use scoring::Vulnerability;
 use std::error::AnyError;
 
 // Nobody is vulnerable on the first of these boards, both sides on the second.
@@ -75,7 +75,7 @@ fn scored(bid: Contract, declarer: Declarer, board: u8) -> Result<i32, Refusal> 
         declarer,
         bid.tricks,
     )?;
-    Ok(i32::from(contract.score(board).points()))
+    Ok(i32::from(Score::of_contract(contract, board).points()))
 }
 
 pub(crate) fn board(rt: &impl Print, tally: &mut Tally, row: &mut Fields) -> Result<(), AnyError> {
@@ -92,7 +92,7 @@ pub(crate) fn score(rt: &impl Print, tally: &mut Tally, row: &mut Fields) -> Res
     let doubling = row.doubling()?;
     let declarer = row.declarer()?;
     let contract = Contract::new(level, denomination, doubling, declarer, row.byte()?)?;
-    let points = contract.score(row.byte()?).points();
+    let points = Score::of_contract(contract, row.byte()?).points();
     tally.check(rt, "score", i32::from(points), row.number()?)?;
     Ok(())
 }

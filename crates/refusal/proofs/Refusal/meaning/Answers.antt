@@ -51,6 +51,3 @@ returns-in-OutputTooShort c = simp (c .in-OutputTooShort .is)
 
 pub returns-in-BoardNotPlayed : need.returns-in-BoardNotPlayed
 returns-in-BoardNotPlayed c = simp (c .in-BoardNotPlayed .is)
-
-pub returns-in-NotASlip : need.returns-in-NotASlip
-returns-in-NotASlip c = simp (c .in-NotASlip .is)

@@ -1,7 +1,8 @@
 use mathlib.Core.Path.{refl}
+use Rattle.scoring.specs.Law.{declarer-score}
 use Rattle.comparison.specs.Ways.{imp-step}
 use Rattle.trials.proofs.figures.worked_figures.Needs as need
 
 pub returns : need.returns
-unfolding imp-step
+unfolding declarer-score imp-step
 returns c = record { hold = (refl, (refl, (refl, (refl, (refl, (refl, (refl, (refl, (refl, tt))))))))); count = refl }

@@ -3,10 +3,10 @@ use mathlib.Core.Bool.{Bool, true, false, not}
 use mathlib.Core.List.{List, [], _∷_}
 use Prim.Native.Nat.{ℕ, _+_, _%_}
 use lib.ListN.{getD}
-use Rattle.scoring.specs.declared.contract.Declarer.{Declarer}
-use Rattle.scoring.specs.declared.contract.Declarer.the-variants.{North, East, South, West}
-use Rattle.scoring.specs.declared.vulnerability.Vulnerability.{Vulnerability}
-use Rattle.scoring.specs.declared.vulnerability.Vulnerability.the-variants.{Neither, NorthSouth, EastWest, Both}
+use Rattle.contract.specs.declared.contract.Declarer.{Declarer}
+use Rattle.contract.specs.declared.contract.Declarer.the-variants.{North, East, South, West}
+use Rattle.contract.specs.declared.vulnerability.Vulnerability.{Vulnerability}
+use Rattle.contract.specs.declared.vulnerability.Vulnerability.the-variants.{Neither, NorthSouth, EastWest, Both}
 
 -- boards 1 to 16
 abbrev pub cycle : List Vulnerability
