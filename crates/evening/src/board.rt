@@ -1,4 +1,4 @@
-// A board that was played at several tables.
+// A board that was played at several tables: what each scored, and how they compare.
 use crate::words;
 use comparison::Comparison;
 use comparison::Imps;
@@ -39,52 +39,39 @@ impl Board<'_> {
             "Board {number}, {vulnerable}, was played at {tables} tables."
         )?;
         for (i, result) in self.results.iter().enumerate() {
-            self.print_score(rt, i, *result)?;
+            print!(rt, "Table {}: ", i.saturating_add(1))?;
+            match *result {
+                None => println!(rt, "passed out, North-South score 0")?,
+                Some(contract) => self.print_contract(rt, contract)?,
+            }
         }
         Ok(())
     }
 
-    fn print_score(&self, rt: &impl Print, i: usize, result: Option<Contract>) -> io::Result<()> {
-        let score = self.score(result).points();
-        let table = i.saturating_add(1);
-        match result {
-            None => println!(rt, "Table {table}: passed out")?,
-            Some(contract) => {
-                print_contract(rt, table, contract)?;
-                let vulnerable = Vulnerability::of_board(self.number).applies_to(contract.declarer);
-                match Outcome::of(contract, vulnerable) {
-                    Outcome::Made(parts) => print_made(rt, parts)?,
-                    Outcome::Down(undertricks) => print_down(rt, undertricks)?,
-                }
-            }
-        }
-        println!(rt, "  North-South score {score}")
+    fn print_contract(&self, rt: &impl Print, c: Contract) -> io::Result<()> {
+        let (level, tricks) = (c.level, c.tricks);
+        let denomination = words::denomination(c.denomination);
+        let doubling = words::doubling(c.doubling);
+        let declarer = words::declarer(c.declarer);
+        let score = Score::of_contract(c, self.number).points();
+        println!(
+            rt,
+            "{level} {denomination}{doubling} by {declarer}, {tricks} tricks, North-South score {score}"
+        )?;
+        let vulnerable = Vulnerability::of_board(self.number).applies_to(c.declarer);
+        print_outcome(rt, Outcome::of(c, vulnerable))
     }
 
     pub(crate) fn print_comparisons(&self, rt: &impl Print) -> io::Result<()> {
-        println!(rt, "")?;
-        println!(
-            rt,
-            "Each table compared with each later one: what the first wins, and what the second."
-        )?;
-        println!(
-            rt,
-            "Matchpoints: 2 for the higher score, 1 each for equal scores."
-        )?;
-        println!(
-            rt,
-            "IMPs: how many of the 24 starts of the scale the difference reaches."
-        )?;
-        println!(rt, "Total points: the difference.")?;
+        println!(rt, "{}", words::COMPARING)?;
         for (i, first) in self.results.iter().enumerate() {
             for (j, second) in self.results.iter().enumerate() {
                 if i < j {
-                    print_heads(
+                    println!(
                         rt,
+                        "Table {} and table {}:",
                         i.saturating_add(1),
-                        self.score(*first),
-                        j.saturating_add(1),
-                        self.score(*second),
+                        j.saturating_add(1)
                     )?;
                     print_pair(rt, self.score(*first), self.score(*second))?;
                 }
@@ -94,18 +81,16 @@ impl Board<'_> {
     }
 
     pub(crate) fn print_totals(&self, rt: &impl Print) -> io::Result<()> {
-        println!(rt, "")?;
         println!(
             rt,
-            "What North-South win at each table from all the others:"
+            "\nWhat North-South win at each table from all the others:"
         )?;
         let mut all = Totals::default();
         for i in 0..self.results.len() {
-            let table = i.saturating_add(1);
             let totals = self.totals(i);
-            print!(rt, "Table {table}: ")?;
-            totals.print(rt)?;
             all.add(totals);
+            print!(rt, "Table {}: ", i.saturating_add(1))?;
+            totals.print(rt)?;
         }
         print!(rt, "All tables together: ")?;
         all.print(rt)
@@ -134,6 +119,33 @@ impl Board<'_> {
     }
 }
 
+fn print_outcome(rt: &impl Print, outcome: Outcome) -> io::Result<()> {
+    match outcome {
+        Outcome::Made(m) => println!(
+            rt,
+            "  made: trick points {}, game or part-score {}, slam {}, insult {}, overtricks {}",
+            m.trick_points, m.game_premium, m.slam_premium, m.insult_premium, m.overtrick_points
+        ),
+        Outcome::Down(u) => println!(rt, "  down {}: undertricks cost {}", u.count, u.penalty),
+    }
+}
+
+// What each of two tables wins from the other.
+fn print_pair(rt: &impl Print, first: Score, second: Score) -> io::Result<()> {
+    println!(
+        rt,
+        "  scores {} and {}, matchpoints {} and {}, IMPs {} and {}, total points {} and {}",
+        first.points(),
+        second.points(),
+        Matchpoints.compare(first, second).0,
+        Matchpoints.compare(second, first).0,
+        Imps.compare(first, second).0,
+        Imps.compare(second, first).0,
+        TotalPoints.compare(first, second).0,
+        TotalPoints.compare(second, first).0
+    )
+}
+
 /// What one table, or all of them, won by each way of comparing.
 #[derive(Clone, Copy, Default)]
 struct Totals {
@@ -150,80 +162,10 @@ impl Totals {
     }
 
     fn print(self, rt: &impl Print) -> io::Result<()> {
-        let Totals {
-            matchpoints,
-            imps,
-            total_points,
-        } = self;
         println!(
             rt,
-            "matchpoints {matchpoints}, IMPs {imps}, total points {total_points}"
+            "matchpoints {}, IMPs {}, total points {}",
+            self.matchpoints, self.imps, self.total_points
         )
     }
-}
-
-fn print_heads(rt: &impl Print, i: usize, first: Score, j: usize, second: Score) -> io::Result<()> {
-    let first = first.points();
-    let second = second.points();
-    println!(rt, "Table {i} ({first}) and table {j} ({second})")
-}
-
-fn print_pair(rt: &impl Print, first: Score, second: Score) -> io::Result<()> {
-    let (m, n) = both(&Matchpoints, first, second);
-    print!(rt, "  matchpoints {m} and {n}, ")?;
-    let (m, n) = both(&Imps, first, second);
-    print!(rt, "IMPs {m} and {n}, ")?;
-    let (m, n) = both(&TotalPoints, first, second);
-    println!(rt, "total points {m} and {n}")
-}
-
-// What each of two scores wins from the other.
-fn both<C: Comparison>(way: &C, first: Score, second: Score) -> (i32, i32) {
-    (way.compare(first, second).0, way.compare(second, first).0)
-}
-
-fn print_contract(rt: &impl Print, table: usize, c: Contract) -> io::Result<()> {
-    let level = c.level;
-    let denomination = words::denomination(c.denomination);
-    let doubling = words::doubling(c.doubling);
-    let declarer = words::declarer(c.declarer);
-    let tricks = c.tricks;
-    println!(
-        rt,
-        "Table {table}: {level} {denomination}{doubling} by {declarer}, {tricks} tricks"
-    )
-}
-
-fn print_made(rt: &impl Print, parts: MadeScore) -> io::Result<()> {
-    let MadeScore {
-        trick_points,
-        game_premium,
-        slam_premium,
-        insult_premium,
-        overtrick_points,
-    } = parts;
-    let kind = if trick_points >= 100 {
-        "game"
-    } else {
-        "part-score"
-    };
-    print!(
-        rt,
-        "  made: trick points {trick_points}, {kind} {game_premium}"
-    )?;
-    if slam_premium > 0 {
-        print!(rt, ", slam {slam_premium}")?;
-    }
-    if insult_premium > 0 {
-        print!(rt, ", insult {insult_premium}")?;
-    }
-    if overtrick_points > 0 {
-        print!(rt, ", overtricks {overtrick_points}")?;
-    }
-    println!(rt, "")
-}
-
-fn print_down(rt: &impl Print, undertricks: Undertricks) -> io::Result<()> {
-    let Undertricks { count, penalty } = undertricks;
-    println!(rt, "  down {count}: undertricks cost {penalty}")
 }

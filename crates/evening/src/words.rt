@@ -39,3 +39,9 @@ pub(crate) fn vulnerability(v: Vulnerability) -> &'static str {
         Vulnerability::Both => "both sides vulnerable",
     }
 }
+
+pub(crate) const COMPARING: &str = "
+Each table compared with each later one: what the first wins, and what the second.
+Matchpoints: 2 for the higher score, 1 each for equal scores.
+IMPs: how many of the 24 starts of the scale the difference reaches.
+Total points: the difference.";

@@ -2,7 +2,7 @@
 ghost use Prim.Native.Nat.{_+_, _≤_};
 
 /// The parts of a made contract's score.
-#[derive(Clone, Copy, PartialEq, Eq, Debug)]
+#[derive(Clone, Copy, Debug)]
 pub struct MadeScore {
     pub trick_points: u16,
     /// For a game, or for a part-score.
@@ -16,14 +16,14 @@ pub struct MadeScore {
 }
 
 /// What a contract that was not made costs.
-#[derive(Clone, Copy, PartialEq, Eq, Debug)]
+#[derive(Clone, Copy, Debug)]
 pub struct Undertricks {
     pub count: u8,
     pub penalty: u16,
     ghost within: { penalty ≤ 7600 },
 }
 
-#[derive(Clone, Copy, PartialEq, Eq, Debug)]
+#[derive(Clone, Copy, Debug)]
 pub enum Outcome {
     Made(MadeScore),
     Down(Undertricks),

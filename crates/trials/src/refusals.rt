@@ -1,9 +1,7 @@
-// Every refusal with its number and its words.
+// Every refusal, by number.
 use refusal::Refusal;
-use refusal::RefusalDisplay;
-use std::io;
 
-const ALL: [Refusal; 18] = [
+pub(crate) const ALL: [Refusal; 18] = [
     Refusal::TablesOutOfRange,
     Refusal::RoundsOutOfRange,
     Refusal::LayerOutOfRange,
@@ -23,11 +21,3 @@ const ALL: [Refusal; 18] = [
     Refusal::BoardNotPlayed,
     Refusal::NotASlip,
 ];
-
-pub(crate) fn print(rt: &impl Print) -> io::Result<()> {
-    println!(rt, "Refusals:")?;
-    for refusal in ALL.iter() {
-        println!(rt, "  {refusal}")?;
-    }
-    Ok(())
-}

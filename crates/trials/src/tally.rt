@@ -1,4 +1,4 @@
-// How many figures of a section agreed.
+// How many figures agreed.
 use std::io;
 
 #[derive(Clone, Copy, Default)]
@@ -8,29 +8,16 @@ pub(crate) struct Tally {
 }
 
 impl Tally {
-    /// Counts a figure, and prints it if it is not the expected one.
-    pub(crate) fn check(
-        &mut self,
-        rt: &impl Print,
-        what: &str,
-        found: i32,
-        expected: i32,
-    ) -> io::Result<()> {
-        if found == expected {
+    pub(crate) fn check(&mut self, agrees: bool) {
+        if agrees {
             self.agreed = self.agreed.saturating_add(1);
-            return Ok(());
+        } else {
+            self.differed = self.differed.saturating_add(1);
         }
-        self.differed = self.differed.saturating_add(1);
-        println!(rt, "  {what}: {found}, and not {expected}")
     }
 
-    /// Prints the section's count and starts again from none.
-    pub(crate) fn report(&mut self, rt: &impl Print) -> io::Result<()> {
-        let Tally { agreed, differed } = *self;
-        *self = Tally::default();
-        if agreed > 0 || differed > 0 {
-            println!(rt, "  {agreed} agree, {differed} differ")?;
-        }
-        Ok(())
+    pub(crate) fn print(self, rt: &impl Print, title: &str) -> io::Result<()> {
+        let Tally { agreed, differed } = self;
+        println!(rt, "{title}: {agreed} agree, {differed} differ")
     }
 }
