@@ -1,19 +1,24 @@
 // One board as it was played at several tables: what each table scored and why, and how the tables compare.
 mod board;
+mod tables;
 mod words;
 
-use board::Board;
 use contract::Contract;
 use contract::Declarer;
 use contract::Denomination;
 use contract::Doubling;
+use contract::Vulnerability;
 use refusal::Refusal;
 use refusal::RefusalDebug;
 use refusal::RefusalDisplay;
 use refusal::RefusalError;
+use scoring::Score;
 use std::error::AnyError;
+use std::io;
 
-// What came in from the tables on board 7; `None` is a board that was passed out.
+const BOARD: u8 = 7;
+
+// What came in from the tables; `None` is a board that was passed out.
 fn results() -> Result<[Option<Contract>; 6], Refusal> {
     Ok([
         Some(
@@ -65,15 +70,27 @@ fn results() -> Result<[Option<Contract>; 6], Refusal> {
     ])
 }
 
-fn run(rt: &impl Print) -> Result<(), AnyError> {
+fn print_board(rt: &impl Print, results: &[Option<Contract>]) -> io::Result<()> {
+    let vulnerable = words::vulnerability(Vulnerability::of_board(BOARD));
+    println!(
+        rt,
+        "Board {BOARD}, {vulnerable}, was played at {} tables.",
+        results.len()
+    )?;
+    for i in 0..results.len() {
+        board::print_result(rt, BOARD, i + 1, results[i])?;
+    }
+    println!(rt, "{}", words::COMPARING)
+}
+
+fn run(rt: &LibcRuntime) -> Result<(), AnyError> {
     let results = results()?;
-    let board = Board {
-        number: 7,
-        results: &results,
-    };
-    board.print_scores(rt)?;
-    board.print_comparisons(rt)?;
-    board.print_totals(rt)?;
+    print_board(rt, &results)?;
+    let mut scores = Vec::new(rt.alloc());
+    for result in results.iter() {
+        scores.push(board::score(BOARD, *result))?;
+    }
+    tables::print_comparisons(rt, scores.as_slice())?;
     Ok(())
 }
 

@@ -41,7 +41,7 @@ pub(crate) fn vulnerability(v: Vulnerability) -> &'static str {
 }
 
 pub(crate) const COMPARING: &str = "
-Each table compared with each later one: what the first wins, and what the second.
-Matchpoints: 2 for the higher score, 1 each for equal scores.
-IMPs: how many of the 24 starts of the scale the difference reaches.
-Total points: the difference.";
+What North-South win at each table from each other table, and in all:
+by matchpoints, 2 for a higher score and 1 for an equal one;
+by IMPs, how many of the 24 starts of the scale the difference reaches;
+by total points, the difference.";
