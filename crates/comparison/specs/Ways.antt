@@ -9,11 +9,11 @@ use Rattle.std.specs.shelf.Lists.{countBy}
 use Rattle.comparison.specs.Way.{Way}
 
 -- two for a better score, one for an equal one
-abbrev pub half-matchpoints : ℤ → ℤ → ℤ
-half-matchpoints a b = cond (ltZ b a) (pos 2) (cond (ltZ a b) (pos 0) (pos 1))
+abbrev pub matchpoints-won : ℤ → ℤ → ℤ
+matchpoints-won a b = cond (ltZ b a) (pos 2) (cond (ltZ a b) (pos 0) (pos 1))
 
 abbrev pub matchpoints : Way
-matchpoints = record { compare = λ a b. half-matchpoints (a .points) (b .points); tie = 1; lift = 1; scale = 50; code = 1 }
+matchpoints = record { compare = λ a b. matchpoints-won (a .points) (b .points); tie = 1; lift = 1; scale = 50; code = 1 }
 
 -- the differences at which each step of the IMP scale starts
 abbrev pub imp-starts : List ℕ
