@@ -1,7 +1,7 @@
 // A contract as it was played: what was bid, who declared, and how many tricks were won.
 ghost use mathlib.Core.Path.{_≡_};
 ghost use Prim.Native.Nat.{_≤_};
-ghost use Rattle.std.specs.Results.{Cases};
+ghost use Rattle.std.specs.Vec.{made, refused};
 ghost use Rattle.refusal.specs.declared.Refusal.the-variants.{ReturnOutOfRange};
 use refusal::Refusal;
 
@@ -52,7 +52,8 @@ impl Contract {
         declarer: Declarer,
         tricks: u8,
     ) -> Result<Contract, Refusal>
-        ensures { λ r. ⌜ Cases r (λ c. (c .level ≡ level) × (c .denomination ≡ denomination) × (c .doubling ≡ doubling) × (c .declarer ≡ declarer) × (c .tricks ≡ tricks)) (λ e. (e ≡ ReturnOutOfRange) × ((1 ≤ level) × (level ≤ 7) × (tricks ≤ 13) → ⊥)) ⌝ }
+        ensures made { λ r. ⌜ made r (λ c. (c .level ≡ level) × (c .denomination ≡ denomination) × (c .doubling ≡ doubling) × (c .declarer ≡ declarer) × (c .tricks ≡ tricks)) ⌝ }
+        ensures refused { λ r. ⌜ refused r (λ e. (e ≡ ReturnOutOfRange) × ((1 ≤ level) × (level ≤ 7) × (tricks ≤ 13) → ⊥)) ⌝ }
     {
         if level < 1 || level > 7 || tricks > 13 {
             return Err(Refusal::ReturnOutOfRange);

@@ -5,7 +5,7 @@ ghost use Rattle.std.specs.shelf.Lists.{All};
 ghost use Rattle.trials.specs.Figures.{worked};
 
 /// How many figures the list has. Each of them is what the definitions give.
-pub fn worked_figures() -> u8
+pub(crate) fn worked_figures() -> u8
     ensures hold { λ _. ⌜ All (λ f. f .0 ≡ f .1) worked ⌝ }
     ensures count { λ r. ⌜ r ≡ length worked ⌝ }
 {
