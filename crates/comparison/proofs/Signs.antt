@@ -1,6 +1,6 @@
 -- The signed step of a difference keeps the laws of a way of comparing.
 use mathlib.Core.Path.{_≡_, ap, _∙_}
-use Prim.Native.Nat.{ℕ, zero, suc, _+_, _≤_}
+use Prim.Native.Nat.{zero, suc, _+_}
 use native.Mathlib.Omega.{arith}
 use lib.IntN.{ℤ, pos, negsuc, negℤ, _+ℤ_, _-ℤ_, +ℤ-invr, +ℤ-invl}
 use lib.Signed.{_≤ℤ_}

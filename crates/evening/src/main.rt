@@ -12,7 +12,6 @@ use refusal::Refusal;
 use refusal::RefusalDebug;
 use refusal::RefusalDisplay;
 use refusal::RefusalError;
-use scoring::Score;
 use std::error::AnyError;
 use std::io;
 

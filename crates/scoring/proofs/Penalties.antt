@@ -1,10 +1,10 @@
 -- How far a penalty can go, and what one more undertrick adds to it.
-use mathlib.Core.Bool.{Bool, true, false, cond}
-use mathlib.Core.Path.{_≡_, refl}
-use Prim.Native.Nat.{ℕ, zero, suc, _+_, _*_, _≤_, _<_}
+use mathlib.Core.Bool.{Bool, true, false}
+use mathlib.Core.Path.{_≡_}
+use Prim.Native.Nat.{ℕ, zero, suc, _+_, _*_, _≤_}
 use native.Mathlib.Numerals.{add-one}
 use native.Mathlib.Omega.{arith}
-use lib.Dec.{leb, lit≤}
+use lib.Dec.{lit≤}
 use Rattle.contract.specs.declared.contract.Doubling.{Doubling}
 use Rattle.contract.specs.declared.contract.Doubling.the-variants.{Undoubled, Doubled, Redoubled}
 use Rattle.scoring.specs.Law.{doubled-undertrick, undertrick, penalty}
