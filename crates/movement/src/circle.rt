@@ -1,0 +1,45 @@
+// Numbers around a circle of tables.
+ghost use mathlib.Core.Path.{_≡_};
+ghost use Prim.Native.Nat.{_+_, _-_, _%_, _≤_, _<_};
+ghost use lib.IntN.{pos, _-ℤ_};
+ghost use Rattle.plan.specs.Plan.{within};
+ghost use Rattle.plan.specs.Movements.{wrap};
+
+/// The number from 1 to `circle` that differs from `v`, which is above 0, by a multiple of `circle`.
+fn wrap(circle: u8, v: u8) -> u8
+    requires some { ⌜ 1 ≤ circle ⌝ }
+    requires above { ⌜ 1 ≤ v ⌝ }
+    ensures value { λ r. ⌜ r ≡ 1 + (v - 1) % circle ⌝ }
+    ensures most { λ r. ⌜ r ≤ circle ⌝ }
+{
+    (v - 1) % circle + 1
+}
+
+/// The place `steps` after `place` on a circle of numbers from 1. A helper: the circle is small, and the place above 0.
+pub(crate) fn ahead(circle: u8, place: u8, steps: u8) -> u8
+    requires some { ⌜ 1 ≤ circle ⌝ }
+    requires above { ⌜ 1 ≤ place ⌝ }
+    requires small { ⌜ place + steps ≤ 255 ⌝ }
+    ensures value { λ r. ⌜ r ≡ wrap circle (pos (place + steps)) ⌝ }
+    ensures most { λ r. ⌜ r ≤ circle ⌝ }
+{
+    wrap(circle, place + steps)
+}
+
+/// The place `steps` before `place`, by less than a whole turn.
+pub(crate) fn back(circle: u8, place: u8, steps: u8) -> u8
+    requires less { ⌜ steps < circle ⌝ }
+    requires above { ⌜ 1 ≤ place ⌝ }
+    requires small { ⌜ place + circle ≤ 255 ⌝ }
+    ensures value { λ r. ⌜ r ≡ wrap circle (pos place -ℤ pos steps) ⌝ }
+    ensures most { λ r. ⌜ r ≤ circle ⌝ }
+{
+    wrap(circle, place + (circle - steps))
+}
+
+/// Whether `k` is one of the numbers 1 to `n`.
+pub(crate) fn is_within(n: u8, k: u8) -> bool
+    ensures { λ r. ⌜ r ≡ within n k ⌝ }
+{
+    1 <= k && k <= n
+}

@@ -1,0 +1,4 @@
+pub mod Plan
+pub mod Laws
+pub mod Movements
+pub mod Layers

@@ -1,0 +1,9 @@
+// A movement seats the pairs: its plan, the laws of every plan, and the questions that can be put to it.
+mod movement;
+mod side;
+
+pub use movement::Movement;
+pub use side::Side;
+pub use side::SideDebug;
+pub use side::SideEq;
+pub use side::SidePartialEq;
