@@ -5,3 +5,4 @@ pub mod Mitchells
 pub mod Over
 pub mod Layers
 pub mod Howells
+pub mod Occupied

@@ -2,3 +2,4 @@ pub mod Plan
 pub mod Laws
 pub mod Movements
 pub mod Layers
+pub mod Boards

@@ -1,7 +1,12 @@
 // A movement seats the pairs: its plan, the laws of every plan, and the questions that can be put to it.
+mod boards;
 mod movement;
 mod side;
 
+pub use boards::BoardsPerSet;
+pub use boards::BoardsPerSetDebug;
+pub use boards::BoardsPerSetEq;
+pub use boards::BoardsPerSetPartialEq;
 pub use movement::Movement;
 pub use side::Side;
 pub use side::SideDebug;

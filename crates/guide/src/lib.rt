@@ -1,0 +1,10 @@
+// Guide cards: where a pair plays in each round, against whom and which boards, for any movement.
+mod card;
+mod place;
+
+pub use card::GuideCard;
+pub use card::GuideCardDisplay;
+pub use place::Place;
+pub use place::PlaceDebug;
+pub use place::PlaceEq;
+pub use place::PlacePartialEq;
