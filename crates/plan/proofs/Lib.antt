@@ -6,3 +6,4 @@ pub mod Over
 pub mod Layers
 pub mod Howells
 pub mod Occupied
+pub mod Agreement

@@ -9,7 +9,7 @@ use Rattle.std.proofs.shelf.Tests.{cases-lt}
 use Rattle.plan.specs.Plan.{Plan, Seat}
 use Rattle.plan.specs.Laws.{Laws, In}
 
-cases-in : (n k : ℕ) → In n k ⊎ (In n k → ⊥)
+pub cases-in : (n k : ℕ) → In n k ⊎ (In n k → ⊥)
 cases-in n k =
     elim (cases-lt k 1) [
       | inl low ↦ inr (λ h. omega arith)

@@ -3,3 +3,4 @@ pub mod Laws
 pub mod Movements
 pub mod Layers
 pub mod Boards
+pub mod Agreement

@@ -1,5 +1,6 @@
 // A movement seats the pairs: its plan, the laws of every plan, and the questions that can be put to it.
 mod boards;
+mod equal;
 mod movement;
 mod side;
 
@@ -7,6 +8,7 @@ pub use boards::BoardsPerSet;
 pub use boards::BoardsPerSetDebug;
 pub use boards::BoardsPerSetEq;
 pub use boards::BoardsPerSetPartialEq;
+pub use equal::are_equal;
 pub use movement::Movement;
 pub use side::Side;
 pub use side::SideDebug;
