@@ -8,3 +8,4 @@ pub use arrow_switch::ArrowSwitchMovement;
 pub use missing_pair::MissingPair;
 pub use missing_pair::MissingPairMovement;
 pub use refused::LayerRefused;
+pub use refused::RefusalFromLayer;

@@ -2,10 +2,13 @@
 mod boards;
 mod differences;
 mod figures;
+mod piles;
 mod refusals;
 mod runs;
+mod sizes;
 mod tables;
 mod tally;
+mod walks;
 
 use refusal::RefusalDisplay;
 use std::io;
@@ -28,5 +31,14 @@ fn main(rt: LibcRuntime) -> io::Result<()> {
     runs::refused().print(&rt, "Contracts and scores that do not exist")?;
     runs::imps().print(&rt, "The IMP scale at every ten")?;
     runs::compared().print(&rt, "Comparisons, both ways round")?;
-    runs::constants().print(&rt, "Constants of the ways of comparing")
+    runs::constants().print(&rt, "Constants of the ways of comparing")?;
+    walks::mitchell().print(&rt, "Mitchell, walked table by table")?;
+    walks::skip_mitchell().print(&rt, "Skip Mitchell, walked table by table")?;
+    walks::howell().print(&rt, "Howell, seat by seat")?;
+    sizes::all().print(&rt, "Sizes of movements")?;
+    sizes::fields().print(&rt, "Sets, pairs and fields of movements")?;
+    piles::three_layers().print(&rt, "Three layers over a Mitchell")?;
+    piles::refused().print(&rt, "Layers made and refused")?;
+    piles::places().print(&rt, "Places of the pairs in a Howell")?;
+    piles::boards().print(&rt, "Boards of a set")
 }
