@@ -1,5 +1,7 @@
-// One board as it was played at several tables: what each table scored and why, and how the tables compare.
+// The guide cards of an evening; then one board as it was played at several tables: what each table scored and why, and how
+// the tables compare.
 mod board;
+mod cards;
 mod tables;
 mod words;
 
@@ -8,6 +10,10 @@ use contract::Declarer;
 use contract::Denomination;
 use contract::Doubling;
 use contract::Vulnerability;
+use layer::ArrowSwitchMovement;
+use layer::MissingPairMovement;
+use movement::SkipMitchellMovement;
+use plan::BoardsPerSet;
 use refusal::Refusal;
 use refusal::RefusalDebug;
 use refusal::RefusalDisplay;
@@ -73,7 +79,7 @@ fn print_board(rt: &impl Print, results: &[Option<Contract>]) -> io::Result<()> 
     let vulnerable = words::vulnerability(Vulnerability::of_board(BOARD));
     println!(
         rt,
-        "Board {BOARD}, {vulnerable}, was played at {} tables.",
+        "\nBoard {BOARD}, {vulnerable}, was played at {} tables.",
         results.len()
     )?;
     for i in 0..results.len() {
@@ -83,6 +89,8 @@ fn print_board(rt: &impl Print, results: &[Option<Contract>]) -> io::Result<()> 
 }
 
 fn run(rt: &LibcRuntime) -> Result<(), AnyError> {
+    println!(rt, "{}", cards::EVENT)?;
+    cards::print_cards(rt, &cards::event()?, BoardsPerSet::new(cards::BOARDS)?)?;
     let results = results()?;
     print_board(rt, &results)?;
     let mut scores = Vec::new(rt.alloc());

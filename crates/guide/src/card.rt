@@ -37,11 +37,11 @@ impl fmt::Display for Line as LineDisplay {
         let side = side_name(place.side);
         write!(f, "  round {round}: table {}, {side} ", place.table)?;
         let (first, last) = self.boards.of_set(place.set);
-        writeln!(
-            f,
-            "against pair {}, boards {first} to {last}",
-            place.opponents
-        )
+        write!(f, "against pair {}, ", place.opponents)?;
+        if first == last {
+            return writeln!(f, "board {first}");
+        }
+        writeln!(f, "boards {first} to {last}")
     }
 }
 
