@@ -1,7 +1,7 @@
 -- Where a pair plays by a plan.
 use mathlib.Core.Bool.{cond}
 use mathlib.Core.Path.{_≡_}
-use Prim.Native.Nat.{ℕ}
+use Prim.Native.Nat.{ℕ, zero, suc}
 use lib.Dec.{eqb}
 use Rattle.std.specs.declared.option.Option.{Option}
 use Rattle.std.specs.declared.option.Option.the-variants.{Some, None}
@@ -28,3 +28,16 @@ place-at table pair None = None
 place-at table pair (Some s) =
     cond (eqb pair (s .0)) (Some (record { table = table; side = NorthSouth; opponents = s .1; set = s .2 }))
     (cond (eqb pair (s .1)) (Some (record { table = table; side = EastWest; opponents = s .0; set = s .2 })) None)
+
+-- the first of two places that is one
+abbrev pub either : Option Place → Option Place → Option Place
+either None p = p
+either (Some p) q = Some p
+
+-- the place of a pair at one of the first n tables, and among all tables
+abbrev pub place-among : Plan → ℕ → ℕ → ℕ → Option Place
+place-among m round pair zero = None
+place-among m round pair (suc n) = either (place-among m round pair n) (place-at (suc n) pair (m .seat round (suc n)))
+
+abbrev pub place-of : Plan → ℕ → ℕ → Option Place
+place-of m round pair = place-among m round pair (m .tables)

@@ -1,7 +1,7 @@
 // Where a pair plays in a round.
 ghost use mathlib.Core.Path.{_≡_};
 ghost use Rattle.std.specs.Options.{Cases};
-ghost use Rattle.guide.specs.Places.{Plays, Sits-out, place-at};
+ghost use Rattle.guide.specs.Places.{Plays, Sits-out, place-at, place-of};
 use plan::Movement;
 use plan::Side;
 use plan::SideDebug;
@@ -20,6 +20,7 @@ pub struct Place {
 impl Place {
     /// Where a pair plays in a round, or nothing where it sits out. It has no other place in that round.
     pub fn find<M: Movement>(movement: &M, round: u8, pair: u8) -> Option<Place>
+        ensures value { λ r. ⌜ r ≡ place-of (M·Movement .plan (now (movement .entry))) round pair ⌝ }
         ensures found { λ r. ⌜ Cases r (Sits-out (M·Movement .plan (now (movement .entry))) round pair) (Plays (M·Movement .plan (now (movement .entry))) round pair) ⌝ }
         ensures alone { λ r. ⌜ Cases r Unit (λ p. (other : Place) → Plays (M·Movement .plan (now (movement .entry))) round pair other → other ≡ p) ⌝ }
     {

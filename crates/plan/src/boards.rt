@@ -36,7 +36,7 @@ impl BoardsPerSet {
     pub fn of_set(self, set: u8) -> (u16, u16)
         ensures { λ r. ⌜ r ≡ (first-board (self .boards) set, last-board (self .boards) set) ⌝ }
     {
-        let boards = u16::from(self.boards);
+        let boards = u16::from(self.count());
         let before = u16::from(set.saturating_sub(1)) * boards;
         (before + 1, u16::from(set) * boards)
     }
