@@ -5,7 +5,7 @@ ghost use lib.IntN.{pos, _-ℤ_};
 ghost use Rattle.plan.specs.Plan.{within};
 ghost use Rattle.plan.specs.Movements.{wrap};
 
-/// The number from 1 to `circle` that differs from `v`, which is above 0, by a multiple of `circle`.
+// The number from 1 to `circle` that differs from `v`, which is above 0, by a multiple of `circle`.
 fn wrap(circle: u8, v: u8) -> u8
     requires some { ⌜ 1 ≤ circle ⌝ }
     requires above { ⌜ 1 ≤ v ⌝ }
