@@ -15,26 +15,26 @@ fn wrap(circle: u8, v: u8) -> u8
     (v - 1) % circle + 1
 }
 
-/// The place `steps` after `place` on a circle of numbers from 1. A helper: the circle is small, and the place above 0.
-pub(crate) fn ahead(circle: u8, place: u8, steps: u8) -> u8
+/// The number `steps` after `start` on a circle of numbers from 1. A helper: the circle is small, and the start above 0.
+pub(crate) fn ahead(circle: u8, start: u8, steps: u8) -> u8
     requires some { ⌜ 1 ≤ circle ⌝ }
-    requires above { ⌜ 1 ≤ place ⌝ }
-    requires small { ⌜ place + steps ≤ 255 ⌝ }
-    ensures value { λ r. ⌜ r ≡ wrap circle (pos (place + steps)) ⌝ }
+    requires above { ⌜ 1 ≤ start ⌝ }
+    requires small { ⌜ start + steps ≤ 255 ⌝ }
+    ensures value { λ r. ⌜ r ≡ wrap circle (pos (start + steps)) ⌝ }
     ensures most { λ r. ⌜ r ≤ circle ⌝ }
 {
-    wrap(circle, place + steps)
+    wrap(circle, start + steps)
 }
 
-/// The place `steps` before `place`, by less than a whole turn.
-pub(crate) fn back(circle: u8, place: u8, steps: u8) -> u8
+/// The number `steps` before `start`, by less than a whole turn.
+pub(crate) fn back(circle: u8, start: u8, steps: u8) -> u8
     requires less { ⌜ steps < circle ⌝ }
-    requires above { ⌜ 1 ≤ place ⌝ }
-    requires small { ⌜ place + circle ≤ 255 ⌝ }
-    ensures value { λ r. ⌜ r ≡ wrap circle (pos place -ℤ pos steps) ⌝ }
+    requires above { ⌜ 1 ≤ start ⌝ }
+    requires small { ⌜ start + circle ≤ 255 ⌝ }
+    ensures value { λ r. ⌜ r ≡ wrap circle (pos start -ℤ pos steps) ⌝ }
     ensures most { λ r. ⌜ r ≤ circle ⌝ }
 {
-    wrap(circle, place + (circle - steps))
+    wrap(circle, start + (circle - steps))
 }
 
 /// Whether `k` is one of the numbers 1 to `n`.

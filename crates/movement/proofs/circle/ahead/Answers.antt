@@ -8,5 +8,5 @@ use Rattle.movement.proofs.circle.ahead.Needs as need
 pub returns : need.returns
 returns c =
     let n = c .args .circle in
-    let a = c .args .place + c .args .steps in
+    let a = c .args .start + c .args .steps in
     record { value = c .wrap .ensures .value ∙ wrap-from n (pos a) 0 a (c .pre .some) (omega arith) (ap pos (omega arith)); most = c .wrap .ensures .most }

@@ -9,6 +9,6 @@ use Rattle.movement.proofs.circle.back.Needs as need
 pub returns : need.returns
 returns c =
     let n = c .args .circle in
-    let t = c .args .place in
+    let t = c .args .start in
     let k = c .args .steps in
     record { value = c .wrap .ensures .value ∙ wrap-from n (pos t -ℤ pos k) 1 (t + (n - k)) (omega arith) (omega arith) (omega (arith, ints)); most = c .wrap .ensures .most }
