@@ -69,7 +69,7 @@ fn pile(first: u8, last: u8) -> Result<Pile, Refusal> {
     Ok(MissingPair::new(ArrowSwitch::new(short, 4)?, last)?)
 }
 
-fn check_pile(tally: &mut Tally, pile: &Pile) {
+fn check_pile<M: Movement>(tally: &mut Tally, pile: &M) {
     for (round, seats) in (1..=5).zip(PILE.iter()) {
         for (table, seat) in (1..=5).zip(seats.iter()) {
             tally.check(pile.seat(round, table) == *seat);
@@ -130,6 +130,44 @@ pub(crate) fn refused() -> Tally {
     tally
 }
 
+fn is_at<M: Movement>(m: &M, round: u8, pair: u8, expected: Place) -> bool {
+    match Place::find(m, round, pair) {
+        Some(place) => place == expected,
+        None => false,
+    }
+}
+
+// Both pairs at a table are found there, each with the other as opponents.
+fn check_table<M: Movement>(tally: &mut Tally, m: &M, round: u8, table: u8, seat: (u8, u8, u8)) {
+    let (north_south, east_west, set) = seat;
+    let side = Side::NorthSouth;
+    let opponents = east_west;
+    tally.check(is_at(
+        m,
+        round,
+        north_south,
+        Place {
+            table,
+            side,
+            opponents,
+            set,
+        },
+    ));
+    let side = Side::EastWest;
+    let opponents = north_south;
+    tally.check(is_at(
+        m,
+        round,
+        east_west,
+        Place {
+            table,
+            side,
+            opponents,
+            set,
+        },
+    ));
+}
+
 /// The place of each pair in each round of the Howell, and of pairs that sit out.
 pub(crate) fn places() -> Tally {
     let mut tally = Tally::default();
@@ -137,21 +175,8 @@ pub(crate) fn places() -> Tally {
         return tally;
     };
     for (round, seats) in (1..=7).zip(HOWELL.iter()) {
-        for (table, (north_south, east_west, set)) in (1..=4).zip(seats.iter()) {
-            let one = Place {
-                table,
-                side: Side::NorthSouth,
-                opponents: *east_west,
-                set: *set,
-            };
-            let other = Place {
-                table,
-                side: Side::EastWest,
-                opponents: *north_south,
-                set: *set,
-            };
-            tally.check(Place::find(&m, round, *north_south) == Some(one));
-            tally.check(Place::find(&m, round, *east_west) == Some(other));
+        for (table, seat) in (1..=4).zip(seats.iter()) {
+            check_table(&mut tally, &m, round, table, *seat);
         }
         tally.check(Place::find(&m, round, 0).is_none());
         tally.check(Place::find(&m, round, 9).is_none());
