@@ -14,7 +14,7 @@ use Rattle.plan.specs.Plan.{Seat, within, sitter, opposite, set-of}
 use Rattle.plan.specs.Laws.{Laws, In}
 use Rattle.plan.specs.Movements.{howell, howell-seat, wrap}
 use Rattle.plan.proofs.Seats.{seated-at, seated-outside}
-use Rattle.plan.proofs.Layers.{one-field-of, one-field-outside}
+use Rattle.plan.proofs.Fields.{one-field-of, one-field-outside}
 
 -- the test of each number from 1 to n
 abbrev each : ℕ → (ℕ → Bool) → Bool

@@ -6,18 +6,11 @@ use native.Mathlib.Omega.{arith}
 use lib.Dec.{leb, eqb}
 use Rattle.std.specs.declared.option.Option.{Option}
 use Rattle.std.specs.declared.option.Option.the-variants.{Some, None}
-use Rattle.std.proofs.shelf.Ways.{tells}
 use Rattle.plan.specs.Plan.{Plan, Seat}
-use Rattle.plan.specs.Laws.{Laws, In}
-use Rattle.plan.specs.Movements.{one-field}
+use Rattle.plan.specs.Laws.{Laws}
 use Rattle.plan.specs.Layers.{without, emptied, arrow-switched, exchanged}
+use Rattle.plan.proofs.Fields.{one-field-of, one-field-outside}
 use Rattle.plan.proofs.Over.{turned, over-lawful}
-
-pub one-field-of : (pairs p : ℕ) → In pairs p → In 2 (one-field pairs p)
-one-field-of pairs p h = grind (arith, tells)
-
-pub one-field-outside : (pairs p : ℕ) → (In pairs p → ⊥) → one-field pairs p ≡ 0
-one-field-outside pairs p h = grind (arith, tells)
 
 kept : (p : ℕ) (below : Option Seat) (s : Seat) → emptied p below ≡ Some s → below ≡ Some s
 kept p None s e = e

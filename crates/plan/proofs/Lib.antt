@@ -1,9 +1,10 @@
 pub mod Wrapping
-pub mod Seats
-pub mod Rotating
+mod Seats
+mod Fields
+mod Rotating
 pub mod Mitchells
-pub mod Over
-pub mod Layers
 pub mod Howells
+mod Over
+pub mod Layers
 pub mod Occupied
-pub mod Agreement
+mod Agreement

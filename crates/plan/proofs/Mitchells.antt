@@ -1,13 +1,13 @@
 -- Mitchell and skip Mitchell keep the laws, each by how far East-West have gone.
 use mathlib.Core.Bool.{cond}
 use mathlib.Core.Path.{_≡_}
-use Prim.Native.Nat.{ℕ, _+_, _-_, _*_, _/_, _%_, _≤_}
+use Prim.Native.Nat.{ℕ, _+_, _-_, _/_, _%_, _≤_}
 use native.Mathlib.Omega.{arith}
 use lib.Dec.{leb}
 use Rattle.std.proofs.shelf.Ways.{tells}
 use Rattle.plan.specs.Laws.{Laws, In}
 use Rattle.plan.specs.Movements.{mitchell, skip-mitchell}
-use Rattle.plan.proofs.Rotating.{Turns, rotating-lawful}
+use Rattle.plan.proofs.Rotating.{rotating-lawful}
 
 -- one table for each round, so that the sets, too, are met two by two around an odd circle
 pub mitchell-lawful : (tables rounds : ℕ) → tables ≤ 16 → tables % 2 ≡ 1 → In tables rounds → Laws (mitchell tables rounds)

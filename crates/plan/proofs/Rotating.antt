@@ -1,9 +1,9 @@
 -- The argument that Mitchell and skip Mitchell share, whatever the tables that East-West have gone by each round.
-use mathlib.Core.Path.{_≡_, refl, sym, ap, subst, _∙_}
+use mathlib.Core.Path.{_≡_, sym, ap, subst}
 use Prim.Native.Nat.{ℕ, _+_, _-_, _*_, _≤_, _<_}
 use native.Mathlib.Omega.{arith}
 use lib.IntN.{pos, _-ℤ_}
-use Rattle.std.specs.declared.option.Option.the-variants.{Some, None}
+use Rattle.std.specs.declared.option.Option.the-variants.{Some}
 use Rattle.plan.specs.declared.side.Side.{Side}
 use Rattle.plan.specs.declared.side.Side.the-variants.{NorthSouth, EastWest}
 use Rattle.plan.specs.Plan.{Seat, sitter, opposite, set-of}

@@ -1,10 +1,9 @@
 -- Where `wrap` brings a number that is off the circle by one turn at most.
 use mathlib.Core.Logic.{_⊎_, inl, inr}
 use mathlib.Core.Path.{_≡_, refl, sym, ap, _∙_}
-use Prim.Native.Nat.{ℕ, suc, _+_, _-_, _*_, _≤_, _<_, _%_}
+use Prim.Native.Nat.{ℕ, _+_, _-_, _*_, _≤_, _<_, _%_}
 use native.Mathlib.Omega.{arith}
 use lib.IntN.{ℤ, pos, natAbs, _+ℤ_, _-ℤ_}
-use Rattle.std.specs.Numbers.{remEuclid}
 use Rattle.std.proofs.shelf.Bits.{mod-mul-add}
 use Rattle.std.proofs.shelf.Signed.{ints, remEuclid-is}
 use Rattle.std.proofs.shelf.Tests.{cases-lt}

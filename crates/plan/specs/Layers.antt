@@ -1,5 +1,5 @@
 -- What a layer makes of the plan below it.
-use mathlib.Core.Bool.{Bool, cond, _||_}
+use mathlib.Core.Bool.{cond, _||_}
 use Prim.Native.Nat.{ℕ}
 use lib.Dec.{leb, eqb}
 use Rattle.std.specs.declared.option.Option.{Option}
