@@ -7,6 +7,7 @@ ghost use Rattle.plan.specs.Layers.{arrow-switched};
 ghost use Rattle.layer.specs.Ranges.{arrow-switch-range};
 use crate::refused::LayerRefused;
 use plan::Movement;
+use plan::one_field;
 use refusal::Refusal;
 
 /// A movement with North-South and East-West exchanged from round `from` on, and all pairs in field 1.
@@ -52,11 +53,7 @@ pub impl<M: Movement> Movement for ArrowSwitch<M> as ArrowSwitchMovement {
     }
 
     fn field(&self, pair: u8) -> u8 {
-        if 1 <= pair && pair <= self.below.pairs() {
-            1
-        } else {
-            0
-        }
+        one_field(self.below.pairs(), pair)
     }
 
     fn seat(&self, round: u8, table: u8) -> Option<(u8, u8, u8)> {

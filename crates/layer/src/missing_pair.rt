@@ -7,6 +7,7 @@ ghost use Rattle.plan.specs.Layers.{without};
 ghost use Rattle.layer.specs.Ranges.{missing-pair-range};
 use crate::refused::LayerRefused;
 use plan::Movement;
+use plan::is_within;
 use refusal::Refusal;
 
 /// A movement with each table empty at which `pair` would sit.
@@ -22,7 +23,7 @@ impl<M: Movement> MissingPair<M> {
         ensures made { λ r. ⌜ made r (λ m. (first-no (missing-pair-range (M·Movement .plan below) pair) ≡ None) × (m .below ≡ below) × (m .pair ≡ pair)) ⌝ }
         ensures refused { λ r. ⌜ refused r (λ e. (first-no (missing-pair-range (M·Movement .plan below) pair) ≡ Some (e .refusal)) × (e .movement ≡ below)) ⌝ }
     {
-        if pair < 1 || pair > below.pairs() {
+        if !is_within(below.pairs(), pair) {
             return Err(LayerRefused {
                 movement: below,
                 refusal: Refusal::LayerOutOfRange,

@@ -2,7 +2,6 @@
 ghost use mathlib.Core.Path.{_≡_};
 ghost use Prim.Native.Nat.{_+_, _-_, _%_, _≤_, _<_};
 ghost use lib.IntN.{pos, _-ℤ_};
-ghost use Rattle.plan.specs.Plan.{within};
 ghost use Rattle.plan.specs.Movements.{wrap};
 
 // The number from 1 to `circle` that differs from `v`, which is above 0, by a multiple of `circle`.
@@ -35,11 +34,4 @@ pub(crate) fn back(circle: u8, start: u8, steps: u8) -> u8
     ensures most { λ r. ⌜ r ≤ circle ⌝ }
 {
     wrap(circle, start + (circle - steps))
-}
-
-/// Whether `k` is one of the numbers 1 to `n`.
-pub(crate) fn is_within(n: u8, k: u8) -> bool
-    ensures { λ r. ⌜ r ≡ within n k ⌝ }
-{
-    1 <= k && k <= n
 }

@@ -7,8 +7,9 @@ ghost use Rattle.refusal.specs.Questions.{first-no};
 ghost use Rattle.plan.specs.Movements.{after, howell};
 ghost use Rattle.movement.specs.Sizes.{howell-sizes};
 use crate::circle::ahead;
-use crate::circle::is_within;
 use plan::Movement;
+use plan::is_within;
+use plan::one_field;
 use refusal::Refusal;
 
 const TABLES: u8 = 4;
@@ -61,7 +62,7 @@ pub impl Movement for Howell as HowellMovement {
     }
 
     fn field(&self, pair: u8) -> u8 {
-        if is_within(PAIRS, pair) { 1 } else { 0 }
+        one_field(PAIRS, pair)
     }
 
     fn seat(&self, round: u8, table: u8) -> Option<(u8, u8, u8)> {

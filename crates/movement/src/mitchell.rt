@@ -6,10 +6,10 @@ ghost use Rattle.std.specs.declared.option.Option.the-variants.{Some, None};
 ghost use Rattle.refusal.specs.Questions.{first-no};
 ghost use Rattle.plan.specs.Movements.{mitchell};
 ghost use Rattle.movement.specs.Sizes.{mitchell-sizes};
-use crate::circle::is_within;
 use crate::rotation::rotating_seat;
 use crate::rotation::two_fields;
 use plan::Movement;
+use plan::is_within;
 use refusal::Refusal;
 
 /// An odd number of tables from 3 to 15, and no more rounds than tables. North-South sit still, the East-West pairs go up

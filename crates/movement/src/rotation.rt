@@ -4,7 +4,7 @@ ghost use Prim.Native.Nat.{_≤_, _<_};
 ghost use Rattle.plan.specs.Movements.{rotating-seat, two-fields};
 use crate::circle::ahead;
 use crate::circle::back;
-use crate::circle::is_within;
+use plan::is_within;
 
 /// The seat of a table at which East-West have gone up `gone` tables. A helper: it is asked of occupied tables alone.
 pub(crate) fn rotating_seat(tables: u8, gone: u8, round: u8, table: u8) -> (u8, u8, u8)

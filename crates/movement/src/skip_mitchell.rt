@@ -6,10 +6,10 @@ ghost use Rattle.std.specs.declared.option.Option.the-variants.{Some, None};
 ghost use Rattle.refusal.specs.Questions.{first-no};
 ghost use Rattle.plan.specs.Movements.{skip-mitchell};
 ghost use Rattle.movement.specs.Sizes.{skip-mitchell-sizes};
-use crate::circle::is_within;
 use crate::rotation::rotating_seat;
 use crate::rotation::two_fields;
 use plan::Movement;
+use plan::is_within;
 use refusal::Refusal;
 
 /// An even number of tables from 4 to 16, and fewer rounds than tables. As in a Mitchell, but after round `tables / 2` the

@@ -5,6 +5,7 @@ ghost use Rattle.std.specs.Vec.{made, refused};
 ghost use Rattle.std.specs.declared.option.Option.the-variants.{Some, None};
 ghost use Rattle.refusal.specs.Questions.{first-no};
 ghost use Rattle.plan.specs.Boards.{first-board, last-board, boards-range};
+use crate::range::is_within;
 use refusal::Refusal;
 
 /// How many boards a set holds: 1 to 4.
@@ -20,7 +21,7 @@ impl BoardsPerSet {
         ensures made { λ r. ⌜ made r (λ b. (first-no (boards-range boards) ≡ None) × (b .boards ≡ boards)) ⌝ }
         ensures refused { λ r. ⌜ refused r (λ e. first-no (boards-range boards) ≡ Some e) ⌝ }
     {
-        if boards < 1 || boards > 4 {
+        if !is_within(4, boards) {
             return Err(Refusal::BoardsPerSetOutOfRange);
         }
         Ok(BoardsPerSet { boards })

@@ -2,6 +2,7 @@
 mod boards;
 mod equal;
 mod movement;
+mod range;
 mod side;
 
 pub use boards::BoardsPerSet;
@@ -10,6 +11,8 @@ pub use boards::BoardsPerSetEq;
 pub use boards::BoardsPerSetPartialEq;
 pub use equal::are_equal;
 pub use movement::Movement;
+pub use range::is_within;
+pub use range::one_field;
 pub use side::Side;
 pub use side::SideDebug;
 pub use side::SideEq;
