@@ -83,7 +83,7 @@ pub impl Movement for Howell as HowellMovement {
 fn after(round: u8, steps: u8) -> u8
     requires first { ⌜ 1 ≤ round ⌝ }
     requires last { ⌜ round ≤ 7 ⌝ }
-    requires few { ⌜ steps ≤ 7 ⌝ }
+    requires few { ⌜ steps ≤ 6 ⌝ }
     ensures { λ r. ⌜ r ≡ after round steps ⌝ }
 {
     ahead(CIRCLE, round, steps)
