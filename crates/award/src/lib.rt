@@ -1,4 +1,7 @@
 // The unit in which awards are counted.
+
+#![tactic(auto)]
+
 ghost use Rattle.std.specs.Prelude.{◌≡◌, pos, ◌*ℤ◌};
 ghost use Rattle.award.specs.Units.{units_per_point};
 

@@ -1,4 +1,7 @@
 // What one score wins from another: the ways of comparing of Law 78 of the Laws of Duplicate Bridge.
+
+#![tactic(auto)]
+
 mod imps;
 mod matchpoints;
 mod total_points;

@@ -1,4 +1,7 @@
 // A contract as it was played, and who is vulnerable on which board.
+
+#![tactic(auto)]
+
 mod contract;
 mod vulnerability;
 

@@ -1,5 +1,8 @@
 // The guide cards of an evening; then one board as it was played at several tables: what each table scored and why, and how
 // the tables compare.
+
+#![tactic(auto)]
+
 mod board;
 mod cards;
 mod tables;

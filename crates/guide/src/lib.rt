@@ -1,4 +1,7 @@
 // Guide cards: where a pair plays in each round, against whom and which boards, for any movement.
+
+#![tactic(auto)]
+
 mod card;
 mod line;
 mod place;

@@ -1,4 +1,7 @@
 // Layers: what happens to a movement on the night, over any movement, layers included.
+
+#![tactic(auto)]
+
 mod arrow_switch;
 mod missing_pair;
 mod refused;

@@ -1,4 +1,7 @@
 // Three movements: Mitchell, skip Mitchell and the Howell for four tables.
+
+#![tactic(auto)]
+
 mod circle;
 mod howell;
 mod mitchell;

@@ -1,4 +1,7 @@
 // A movement seats the pairs: its plan, the laws of every plan, and the questions that can be put to it.
+
+#![tactic(auto)]
+
 mod boards;
 mod equal;
 mod movement;

@@ -1,4 +1,7 @@
 // What a table hands in for a board.
+
+#![tactic(auto)]
+
 mod average;
 mod group;
 mod returned;

@@ -1,4 +1,7 @@
 // What a contract scores at duplicate bridge, by Law 77 of the Laws of Duplicate Bridge.
+
+#![tactic(auto)]
+
 mod down;
 mod made;
 mod outcome;

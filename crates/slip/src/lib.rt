@@ -1,4 +1,7 @@
 // The slip that a table hands in: a return as bytes.
+
+#![tactic(auto)]
+
 mod doubling;
 mod group;
 mod numbers;

@@ -1,4 +1,7 @@
 // Makes, writes and reads returns and slips, damages slips, and prints how many answers agree.
+
+#![tactic(auto)]
+
 mod damage;
 mod handed_in;
 mod not_slips;

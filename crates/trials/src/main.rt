@@ -1,4 +1,7 @@
 // Runs the published tables against the library, and prints how many figures agree.
+
+#![tactic(auto)]
+
 mod boards;
 mod differences;
 mod figures;

@@ -2,8 +2,8 @@ use Rattle.std.proofs.Common.{◌+◌, arith}
 use Rattle.scoring.proofs.Penalties.{undertrick_most, penalty_most, penalty_next}
 use Rattle.scoring.proofs.down.penalty.Goals as goal
 
-pub overflow-add-sum : goal.overflow-add-sum
-overflow-add-sum c =
+pub overflow_add-sum : goal.overflow_add-sum
+overflow_add-sum c =
     let v = c.args.vulnerable in
     let d = c.args.doubling in
     let n = c.loop-place.place in
