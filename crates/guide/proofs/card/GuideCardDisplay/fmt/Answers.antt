@@ -11,19 +11,19 @@ loop-round-preserved g c plain =
     let m = g.M.Movement.plan card.movement.now in
     let r = c.loop-round.round in
     let before = c.loop-round.invariant plain in
-    let line = c.in-ok-write.ensures.shows before.plain (refl {a = true}) in
+    let line = c.in_ok-write.ensures.writes before.plain (refl {a = true}) in
     let lines = next_line g.W.Write.write_str_gives m card.pair r card.boards c.line-line.result c.writeln.new.self c.loop-round.f c.write.new.self c.loop-round.auto.round c.line-line.ensures.round c.line-line.ensures.place c.line-line.ensures.boards before line in
     let same : r ≡ r + 1 - 1 = omega arith in
     subst (λ k. HasWritten g.W.Write.write_str_gives c.writeln.new.self (lines_text m card.pair card.boards.boards k) c.write.new.self) same lines
 
-pub returns-in-ok-write-clause-writes : goal.returns-in-ok-write-clause-writes
-returns-in-ok-write-clause-writes g c plain ok =
+pub returns-in_ok-write-clause-writes : goal.returns-in_ok-write-clause-writes
+returns-in_ok-write-clause-writes g c plain ok =
     let card = c.args.self.now in
     let m = g.M.Movement.plan card.movement.now in
     let r = c.loop-round.round in
-    let head = subst (λ field. HasWritten g.W.Write.write_str_gives c.args.f.now (heading card.pair field) c.writeln.new.self) c.field.ensures (c.in-ok-writeln.ensures.shows plain ok) in
+    let head = subst (λ field. HasWritten g.W.Write.write_str_gives c.args.f.now (heading card.pair field) c.writeln.new.self) c.field.ensures (c.in_ok-writeln.ensures.writes plain ok) in
     let before = c.loop-round.invariant head.plain in
-    let line = c.in-ok-write.ensures.shows before.plain (refl {a = true}) in
+    let line = c.in_ok-write.ensures.writes before.plain (refl {a = true}) in
     let lines = next_line g.W.Write.write_str_gives m card.pair r card.boards c.line-line.result c.writeln.new.self c.loop-round.f c.write.new.self c.loop-round.auto.round c.line-line.ensures.round c.line-line.ensures.place c.line-line.ensures.boards before line in
     let last : r ≡ m.rounds = omega arith in
     has_written_append g.W.Write.write_str_gives c.args.f.now (heading card.pair (m.field card.pair)) c.writeln.new.self (lines_text m card.pair card.boards.boards m.rounds) c.write.new.self
