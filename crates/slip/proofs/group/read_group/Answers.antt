@@ -5,16 +5,16 @@ use Rattle.slip.proofs.Groups.{group_zero, group_read, group_too_long}
 use Rattle.slip.proofs.group.read_group.Goals as goal
 use Rattle.std.proofs.lemmas.Bool.Decides.{Decides-eqb}
 
-pub returns-then-is-empty : goal.returns-then-is-empty
-returns-then-is-empty c = group_zero _ c.args.input.now refl (nil_from_length c.args.input.now (search rules))
+pub returns-then-is_empty : goal.returns-then-is_empty
+returns-then-is_empty c = group_zero _ c.args.input.now refl (nil_from_length c.args.input.now (search rules))
 
-pub returns-in-err-only : goal.returns-in-err-only
-returns-in-err-only c =
-    let split = strip_prefix_is Decides-eqb c.args.input.now (codes " G") (Some c.in-ok-rest.rest) c.in-ok-rest.ensures.cases in
-    rw c.from-residual-in-err-only.ensures (group_too_long c.args.input.now c.in-ok-rest.rest.now split c.in-err-only.ensures)
+pub returns-in_err-only : goal.returns-in_err-only
+returns-in_err-only c =
+    let split = strip_prefix_is Decides-eqb c.args.input.now (codes " G") (Some c.in_ok-rest.rest) c.in_ok-rest.ensures.cases in
+    rw c.from_residual-in_err-only.ensures (group_too_long c.args.input.now c.in_ok-rest.rest.now split c.in_err-only.ensures)
 
 pub returns : goal.returns
 returns c =
-    let split = strip_prefix_is Decides-eqb c.args.input.now (codes " G") (Some c.in-ok-rest.rest) c.in-ok-rest.ensures.cases in
-    group_read c.args.input.now c.in-ok-rest.rest.now c.in-ok-only.field-0 c.group-of.result
-    split c.in-ok-only.ensures c.group-of.ensures
+    let split = strip_prefix_is Decides-eqb c.args.input.now (codes " G") (Some c.in_ok-rest.rest) c.in_ok-rest.ensures.cases in
+    group_read c.args.input.now c.in_ok-rest.rest.now c.in_ok-only.field-0 c.group_of.result
+    split c.in_ok-only.ensures c.group_of.ensures

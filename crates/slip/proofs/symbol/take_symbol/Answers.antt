@@ -6,8 +6,8 @@ use Rattle.slip.proofs.Inputs.{begins, nothing_left}
 use Rattle.slip.proofs.Symbols.{symbol_found, symbol_none}
 use Rattle.slip.proofs.symbol.take_symbol.Goals as goal
 
-pub returns-in-default : goal.returns-in-default
-returns-in-default g c =
+pub returns-in_default : goal.returns-in_default
+returns-in_default g c =
     nothing_left (Has c.args.all.now) g.S.Symbol.text Any (λ x is. omega (arith, g.met.S.Symbol.single x)) c.args.input.now (search rules)
 
 pub returns-then-byte-first : goal.returns-then-byte-first

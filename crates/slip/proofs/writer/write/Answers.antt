@@ -5,10 +5,10 @@ use Rattle.slip.proofs.writer.write.Goals as goal
 
 pub returns : goal.returns
 returns c =
-    let text = c.text-of-text.result in
+    let text = c.text_of-text.result in
     let t = c.args.returned in
     let out = c.args.out.now in
-    let is = c.text-of-text.ensures in
+    let is = c.text_of-text.ensures in
     record {
       made = (as_long text t is, then_as_before text t out _ is (search (rules, overwrites)));
       refused = tt;
