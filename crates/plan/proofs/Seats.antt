@@ -20,5 +20,5 @@ pub seated_outside : (rounds tables : ℕ) (who : ℕ → ℕ → Seat) (r t : �
 seated_outside rounds tables who r t h = cond-false (within rounds r && within tables t) (Some (who r t)) None (missed (cases_Bool (within rounds r && within tables t)))
   where
     missed : ((within rounds r && within tables t) ≡ true) ⊎ ((within rounds r && within tables t) ≡ false) → (within rounds r && within tables t) ≡ false
-    missed (inl both-in) = let both = and_parts (within rounds r) (within tables t) both-in in absurd (h (within_in rounds r both.0, within_in tables t both.1))
+    missed (inl both_in) = let both = and_parts (within rounds r) (within tables t) both_in in absurd (h (within_in rounds r both.0, within_in tables t both.1))
     missed (inr out) = out

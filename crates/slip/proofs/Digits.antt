@@ -28,9 +28,9 @@ level_found n input rest split is = record {
 }
 
 pub level_none : (input : List ℕ) → ((n : ℕ) → IsLevel n → 48 + n ≡ get_or input 0 0 → ⊥) → Takes IsLevel decimal Any input None
-level_none input no-level = record {
+level_none input no_level = record {
   stands = tt;
-  exact = λ m tail is _ e. no-level m is (ap (λ l. get_or l 0 0) (sym (one_digit m tail (omega arith)) ∙ e));
+  exact = λ m tail is _ e. no_level m is (ap (λ l. get_or l 0 0) (sym (one_digit m tail (omega arith)) ∙ e));
 }
 
 -- what ends a number begins with no digit
@@ -55,22 +55,22 @@ two_digits_found n input rest split low high = record {
 
 pub one_digit_found : (n : ℕ) (input : List ℕ) (rest : Bor (List ℕ)) → (48 + n) ∷ rest.now ≡ input → n ≤ 9
     → ((m : ℕ) (tail : List ℕ) → 10 ≤ m → m ≤ 13 → 49 ∷ (38 + m) ∷ tail ≡ input → ⊥) → Takes IsTricks decimal IsEnd input (Some (n, rest))
-one_digit_found n input rest split small not-two = record {
+one_digit_found n input rest split small not_two = record {
   stands = (omega arith, one_digit n rest.now (omega arith) ∙ split);
   exact = λ m tail is end e. elim (cases_lt m 10) [
     | inl below ↦
         let same : (48 + m) ∷ tail ≡ (48 + n) ∷ rest.now = sym (one_digit m tail below) ∙ e ∙ sym split in
         let digits : 48 + m ≡ 48 + n = cc in
         (omega arith, cc)
-    | inr large ↦ absurd (not-two m tail large is (sym (two_digits m tail large is) ∙ e))
+    | inr large ↦ absurd (not_two m tail large is (sym (two_digits m tail large is) ∙ e))
   ];
 }
 
 pub tricks_none : (input : List ℕ) → ((n : ℕ) → n ≤ 9 → 48 + n ≡ get_or input 0 0 → ⊥) → Takes IsTricks decimal IsEnd input None
-tricks_none input no-digits = record {
+tricks_none input no_digits = record {
   stands = tt;
   exact = λ m tail is end e. elim (cases_lt m 10) [
-    | inl below ↦ no-digits m (omega arith) (ap (λ l. get_or l 0 0) (sym (one_digit m tail below) ∙ e))
-    | inr large ↦ no-digits 1 (omega arith) (ap (λ l. get_or l 0 0) (sym (two_digits m tail large is) ∙ e))
+    | inl below ↦ no_digits m (omega arith) (ap (λ l. get_or l 0 0) (sym (one_digit m tail below) ∙ e))
+    | inr large ↦ no_digits 1 (omega arith) (ap (λ l. get_or l 0 0) (sym (two_digits m tail large is) ∙ e))
   ];
 }

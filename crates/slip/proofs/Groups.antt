@@ -61,11 +61,11 @@ group_read input rest digit None split one none = record {
 }
 
 pub group_too_long : (input rest : List ℕ) → input ≡ codes " G" ++ rest → (length rest ≡ 1 → ⊥) → Whole Any group_text input None
-group_too_long input rest split not-one = record {
+group_too_long input rest split not_one = record {
   stands = tt;
   exact = λ h _ e.
       let above = above_zero h 32 (71 ∷ rest) (e ∙ split) in
-      absurd (not-one (omega (arith, ap length (sym (written_group h above) ∙ e ∙ split))));
+      absurd (not_one (omega (arith, ap length (sym (written_group h above) ∙ e ∙ split))));
 }
 
 pub group_ends : (g : Group) → IsEnd (group_text g)
