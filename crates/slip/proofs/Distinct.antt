@@ -1,6 +1,6 @@
 -- Two returns never share a slip: the slip of a return is read as that return.
 use Rattle.std.proofs.Common.{◌≡◌, ℕ, ◌+◌, ◌≤◌, List, [], ◌∷◌, ◌++◌, length, get_or, Some, codes, decimal, sym, refl, ap, ◌∙◌, subst, inl, inr, append_assoc, append-nil, arith, Bor, rules}
-use Rattle.std.specs.List.{ContainsAt as Has}
+use Rattle.std.specs.List.{ContainsAt}
 use Rattle.std.proofs.lemmas.List.{append_cancel_left}
 use Rattle.std.proofs.lemmas.Bool.{cases_lt}
 use Rattle.contract.specs.declared.contract.Contract.{Contract}
@@ -28,8 +28,8 @@ one_letter [] rest one = absurd (omega arith)
 one_letter (b ∷ []) rest one = refl
 one_letter (b ∷ d ∷ text) rest one = absurd (omega arith)
 
-module _ {X : Type 0} (text : X → List ℕ) (single : (x : X) → length (text x) ≡ 1) (distinct : (x y : X) → text x ≡ text y → x ≡ y) (all : List X) (every : (x : X) → Has all x) where
-  symbol_first : (x : X) (rest : List ℕ) → Takes (Has all) text Any (text x ++ rest) (Some (x, lent rest))
+module _ {X : Type 0} (text : X → List ℕ) (single : (x : X) → length (text x) ≡ 1) (distinct : (x y : X) → text x ≡ text y → x ≡ y) (all : List X) (every : (x : X) → ContainsAt all x) where
+  symbol_first : (x : X) (rest : List ℕ) → Takes (ContainsAt all) text Any (text x ++ rest) (Some (x, lent rest))
   symbol_first x rest =
       let letter = one_letter (text x) rest (single x) in
       symbol_found text single distinct all x (text x ++ rest) (lent rest) (ap (λ t. t ++ rest) (sym letter)) (every x) letter
@@ -61,7 +61,7 @@ scored_itself c g =
 averages_itself : (ns ew : Average) → Whole IsAverages slip_of (slip_of (Averages ns ew)) (Some (Averages ns ew))
 averages_itself ns ew =
     let sign = symbol_first average_text (search rules) (search rules) averages every_average in
-    averages_read refl (sign ns (average_text ew)) (subst (λ text. Takes (Has averages) average_text Any text (Some (ew, lent []))) (append-nil (average_text ew)) (sign ew [])) refl
+    averages_read refl (sign ns (average_text ew)) (subst (λ text. Takes (ContainsAt averages) average_text Any text (Some (ew, lent []))) (append-nil (average_text ew)) (sign ew [])) refl
 
 pub unshared : (t u : Return) → slip_of t ≡ slip_of u → t ≡ u
 unshared (Scored c g) (Scored c' g') e = let same = (scored_itself c g).exact (Scored c' g') tt (sym e) in cc

@@ -1,6 +1,6 @@
 -- A scored return that is read part by part.
 use Rattle.std.proofs.Common.{◌≡◌, ℕ, List, ◌++◌, Some, None, codes, decimal, sym, refl, ◌∙◌, append_assoc, arith, Bor}
-use Rattle.std.specs.List.{ContainsAt as Has}
+use Rattle.std.specs.List.{ContainsAt}
 use Rattle.contract.specs.declared.contract.Contract.{Contract}
 use Rattle.contract.specs.declared.contract.Declarer.{Declarer}
 use Rattle.contract.specs.declared.contract.Denomination.{Denomination}
@@ -45,13 +45,13 @@ after_level (c, g) = denomination_text c.denomination ++ after_denomination (c, 
 abbrev level_part : Part IsLevel decimal Any scored after_level
 level_part = record { of = λ x. x.0.level; is = λ x. (x.0.lowest, x.0.highest); ends = λ _. tt; split = λ _. refl }
 
-abbrev denomination_part : Part (Has denominations) denomination_text Any after_level after_denomination
+abbrev denomination_part : Part (ContainsAt denominations) denomination_text Any after_level after_denomination
 denomination_part = record { of = λ x. x.0.denomination; is = λ x. every_denomination x.0.denomination; ends = λ _. tt; split = λ _. refl }
 
 abbrev doubling_part : Part Any spaced Any after_denomination after_doubling
 doubling_part = record { of = λ x. x.0.doubling; is = λ _. tt; ends = λ _. tt; split = λ x. append_assoc (doubling_text x.0.doubling) (codes " ") (after_doubling x) }
 
-abbrev declarer_part : Part (Has declarers) declarer_text Any after_doubling after_declarer
+abbrev declarer_part : Part (ContainsAt declarers) declarer_text Any after_doubling after_declarer
 declarer_part = record { of = λ x. x.0.declarer; is = λ x. every_declarer x.0.declarer; ends = λ _. tt; split = λ _. refl }
 
 abbrev tricks_part : Part IsTricks decimal IsEnd after_space after_tricks
@@ -69,10 +69,10 @@ module _ {input : List ℕ} {level : ℕ} {r₁ : Bor (List ℕ)} (t₁ : Takes 
   left₁ : Left scored input after_level r₁.now
   left₁ = past level_part (λ x e. e) t₁
 
-  pub no_denomination : Takes (Has denominations) denomination_text Any r₁.now None → Whole IsScored slip_of input None
+  pub no_denomination : Takes (ContainsAt denominations) denomination_text Any r₁.now None → Whole IsScored slip_of input None
   no_denomination none = none_of scored_form input (not_there denomination_part left₁ none)
 
-  module _ {denomination : Denomination} {r₂ : Bor (List ℕ)} (t₂ : Takes (Has denominations) denomination_text Any r₁.now (Some (denomination, r₂))) where
+  module _ {denomination : Denomination} {r₂ : Bor (List ℕ)} (t₂ : Takes (ContainsAt denominations) denomination_text Any r₁.now (Some (denomination, r₂))) where
     left₂ : Left scored input after_denomination r₂.now
     left₂ = past denomination_part left₁ t₂
 
@@ -83,10 +83,10 @@ module _ {input : List ℕ} {level : ℕ} {r₁ : Bor (List ℕ)} (t₁ : Takes 
       left₃ : Left scored input after_doubling r₃.now
       left₃ = past doubling_part left₂ t₃
 
-      pub no_declarer : Takes (Has declarers) declarer_text Any r₃.now None → Whole IsScored slip_of input None
+      pub no_declarer : Takes (ContainsAt declarers) declarer_text Any r₃.now None → Whole IsScored slip_of input None
       no_declarer none = none_of scored_form input (not_there declarer_part left₃ none)
 
-      module _ {declarer : Declarer} {r₄ : Bor (List ℕ)} (t₄ : Takes (Has declarers) declarer_text Any r₃.now (Some (declarer, r₄))) where
+      module _ {declarer : Declarer} {r₄ : Bor (List ℕ)} (t₄ : Takes (ContainsAt declarers) declarer_text Any r₃.now (Some (declarer, r₄))) where
         left₄ : Left scored input after_declarer r₄.now
         left₄ = past declarer_part left₃ t₄
 

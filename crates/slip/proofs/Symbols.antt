@@ -1,6 +1,6 @@
 -- What is answered where a symbol of one byte is read.
 use Rattle.std.proofs.Common.{◌≡◌, ℕ, ◌<◌, List, [], ◌∷◌, ◌++◌, length, get_or, Some, None, sym, refl, ap, ◌∙◌, arith, lit<, Bor}
-use Rattle.std.specs.List.{between, ContainsAt as Has, AllWithin}
+use Rattle.std.specs.List.{between, ContainsAt, AllWithin}
 use Rattle.std.proofs.ByRecursion.{all-has, all_from_every}
 use Rattle.std.proofs.lemmas.Slice.{first_rest}
 use Rattle.contract.specs.declared.contract.Declarer.{Declarer}
@@ -20,7 +20,7 @@ one_byte (x ∷ y ∷ more) tail b rest one e = absurd (omega arith)
 abbrev pub denominations : List Denomination
 denominations = Clubs ∷ Diamonds ∷ Hearts ∷ Spades ∷ NoTrump ∷ []
 
-pub every_denomination : (d : Denomination) → Has denominations d
+pub every_denomination : (d : Denomination) → ContainsAt denominations d
 every_denomination Clubs = (0, lit< tt, λ _. refl)
 every_denomination Diamonds = (1, lit< tt, λ _. refl)
 every_denomination Hearts = (2, lit< tt, λ _. refl)
@@ -30,7 +30,7 @@ every_denomination NoTrump = (4, lit< tt, λ _. refl)
 abbrev pub declarers : List Declarer
 declarers = North ∷ East ∷ South ∷ West ∷ []
 
-pub every_declarer : (d : Declarer) → Has declarers d
+pub every_declarer : (d : Declarer) → ContainsAt declarers d
 every_declarer North = (0, lit< tt, λ _. refl)
 every_declarer East = (1, lit< tt, λ _. refl)
 every_declarer South = (2, lit< tt, λ _. refl)
@@ -39,14 +39,14 @@ every_declarer West = (3, lit< tt, λ _. refl)
 abbrev pub averages : List Average
 averages = Plus ∷ Even ∷ Minus ∷ []
 
-pub every_average : (a : Average) → Has averages a
+pub every_average : (a : Average) → ContainsAt averages a
 every_average Plus = (0, lit< tt, λ _. refl)
 every_average Even = (1, lit< tt, λ _. refl)
 every_average Minus = (2, lit< tt, λ _. refl)
 
 module _ {X : Type 0} (text : X → List ℕ) (single : (x : X) → length (text x) ≡ 1) (distinct : (x y : X) → text x ≡ text y → x ≡ y) where
   pub symbol_found : (all : List X) (x : X) (input : List ℕ) (rest : Bor (List ℕ)) → get_or input 0 0 ∷ rest.now ≡ input
-      → Has all x → text x ≡ get_or input 0 0 ∷ [] → Takes (Has all) text Any input (Some (x, rest))
+      → ContainsAt all x → text x ≡ get_or input 0 0 ∷ [] → Takes (ContainsAt all) text Any input (Some (x, rest))
   symbol_found all x input rest split has is = record {
     stands = (has, ap (λ t. t ++ rest.now) is ∙ split);
     exact = λ y tail _ _ e.
@@ -55,7 +55,7 @@ module _ {X : Type 0} (text : X → List ℕ) (single : (x : X) → length (text
   }
 
   pub symbol_none : (all : List X) (input : List ℕ) → 0 < length input
-      → AllWithin (λ y. text y ≡ get_or input 0 0 ∷ [] → ⊥) all 0 (length all) → Takes (Has all) text Any input None
+      → AllWithin (λ y. text y ≡ get_or input 0 0 ∷ [] → ⊥) all 0 (length all) → Takes (ContainsAt all) text Any input None
   symbol_none all input some no_such = record {
     stands = tt;
     exact = λ y tail has _ e.
