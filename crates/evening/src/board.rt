@@ -5,8 +5,8 @@ use scoring::{Outcome, Score};
 use std::io;
 
 /// North-South's score; a board without a contract was passed out.
-pub(crate) fn score(board: u8, res: Option<Contract>) -> Score {
-    match res {
+pub(crate) fn score(board: u8, played: Option<Contract>) -> Score {
+    match played {
         Some(contract) => Score::of_contract(contract, board),
         None => Score::passed_out(),
     }
@@ -16,11 +16,11 @@ pub(crate) fn print_result(
     rt: &impl Print,
     board: u8,
     table: usize,
-    res: Option<Contract>,
+    played: Option<Contract>,
 ) -> io::Result<()> {
-    let points = score(board, res).points();
+    let points = score(board, played).points();
     println!(rt; "Table {table}: North-South score {points}")?;
-    match res {
+    match played {
         None => println!(rt; "  passed out"),
         Some(contract) => {
             print_contract(rt, contract)?;

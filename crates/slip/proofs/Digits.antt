@@ -2,7 +2,7 @@
 use Rattle.std.proofs.Common.{◌≡◌, ℕ, ◌+◌, ◌/◌, ◌%◌, ◌<◌, ◌≤◌, List, [], ◌∷◌, ◌++◌, length, get_or, Some, None, decimal, sym, ap, ◌∙◌, inl, inr, arith, Bor}
 use Rattle.std.proofs.lemmas.Fmt.{decimal_digit, decimal_step}
 use Rattle.std.proofs.lemmas.Bool.{cases_lt}
-use Rattle.slip.specs.Parts.{Takes, Any, IsLevel, IsTricks, IsEnd}
+use Rattle.slip.specs.Parts.{Takes, Always, IsLevel, IsTricks, IsEnd}
 
 pub one_digit : (n : ℕ) (rest : List ℕ) → n < 10 → decimal n ++ rest ≡ (48 + n) ∷ rest
 one_digit n rest small = ap (λ digits. digits ++ rest) (decimal_digit n small)
@@ -18,7 +18,7 @@ ten_and n low high =
 pub two_digits : (n : ℕ) (rest : List ℕ) → 10 ≤ n → n ≤ 13 → decimal n ++ rest ≡ 49 ∷ (38 + n) ∷ rest
 two_digits n rest low high = ap (λ digits. digits ++ rest) (ten_and n low high)
 
-pub level_found : (n : ℕ) (input : List ℕ) (rest : Bor (List ℕ)) → (48 + n) ∷ rest.now ≡ input → IsLevel n → Takes IsLevel decimal Any input (Some (n, rest))
+pub level_found : (n : ℕ) (input : List ℕ) (rest : Bor (List ℕ)) → (48 + n) ∷ rest.now ≡ input → IsLevel n → Takes IsLevel decimal Always input (Some (n, rest))
 level_found n input rest split is = record {
   stands = (is, one_digit n rest.now (omega arith) ∙ split);
   exact = λ m tail ism _ e.
@@ -27,7 +27,7 @@ level_found n input rest split is = record {
       (omega arith, cc);
 }
 
-pub level_none : (input : List ℕ) → ((n : ℕ) → IsLevel n → 48 + n ≡ get_or input 0 0 → ⊥) → Takes IsLevel decimal Any input None
+pub level_none : (input : List ℕ) → ((n : ℕ) → IsLevel n → 48 + n ≡ get_or input 0 0 → ⊥) → Takes IsLevel decimal Always input None
 level_none input no_level = record {
   stands = tt;
   exact = λ m tail is _ e. no_level m is (ap (λ l. get_or l 0 0) (sym (one_digit m tail (omega arith)) ∙ e));

@@ -9,7 +9,7 @@ use Rattle.returns.specs.declared.group.Group.{Group}
 use Rattle.returns.specs.declared.returned.Return.{Return}
 use Rattle.returns.specs.declared.returned.Return.TheVariants.{Scored, Passed, Averages}
 use Rattle.slip.specs.Letters.{denomination_text, doubling_text, declarer_text, average_text}
-use Rattle.slip.specs.Parts.{Takes, Whole, Any, IsTricks, IsEnd, IsScored, IsAverages}
+use Rattle.slip.specs.Parts.{Takes, Whole, Always, IsTricks, IsEnd, IsScored, IsAverages}
 use Rattle.slip.specs.Slips.{group_text, slip_of}
 use Rattle.slip.proofs.Averages.{averages_read}
 use Rattle.slip.proofs.Digits.{one_digit, two_digits, level_found, two_digits_found, one_digit_found, no_digit}
@@ -29,7 +29,7 @@ one_letter (b ∷ []) rest one = refl
 one_letter (b ∷ d ∷ text) rest one = absurd (omega arith)
 
 module _ {X : Type 0} (text : X → List ℕ) (single : (x : X) → length (text x) ≡ 1) (distinct : (x y : X) → text x ≡ text y → x ≡ y) (all : List X) (every : (x : X) → ContainsAt all x) where
-  symbol_first : (x : X) (rest : List ℕ) → Takes (ContainsAt all) text Any (text x ++ rest) (Some (x, lent rest))
+  symbol_first : (x : X) (rest : List ℕ) → Takes (ContainsAt all) text Always (text x ++ rest) (Some (x, lent rest))
   symbol_first x rest =
       let letter = one_letter (text x) rest (single x) in
       symbol_found text single distinct all x (text x ++ rest) (lent rest) (ap (λ t. t ++ rest) (sym letter)) (every x) letter
@@ -61,7 +61,7 @@ scored_itself c g =
 averages_itself : (ns ew : Average) → Whole IsAverages slip_of (slip_of (Averages ns ew)) (Some (Averages ns ew))
 averages_itself ns ew =
     let sign = symbol_first average_text (search rules) (search rules) averages every_average in
-    averages_read refl (sign ns (average_text ew)) (subst (λ text. Takes (ContainsAt averages) average_text Any text (Some (ew, lent []))) (append-nil (average_text ew)) (sign ew [])) refl
+    averages_read refl (sign ns (average_text ew)) (subst (λ text. Takes (ContainsAt averages) average_text Always text (Some (ew, lent []))) (append-nil (average_text ew)) (sign ew [])) refl
 
 pub unshared : (t u : Return) → slip_of t ≡ slip_of u → t ≡ u
 unshared (Scored c g) (Scored c' g') e = let same = (scored_itself c g).exact (Scored c' g') tt (sym e) in cc

@@ -3,7 +3,7 @@ use Rattle.std.proofs.Common.{◌≡◌, ℕ, List, ◌++◌, Some, codes, sym, 
 use Rattle.contract.specs.declared.contract.Doubling.{Doubling}
 use Rattle.contract.specs.declared.contract.Doubling.TheVariants.{Undoubled, Doubled, Redoubled}
 use Rattle.slip.specs.Letters.{doubling_text}
-use Rattle.slip.specs.Parts.{Takes, Any}
+use Rattle.slip.specs.Parts.{Takes, Always}
 
 abbrev pub spaced : Doubling → List ℕ
 spaced d = doubling_text d ++ codes " "
@@ -20,7 +20,7 @@ alone Redoubled Undoubled r s same = absurd (grind arith)
 alone Redoubled Doubled r s same = absurd (grind arith)
 alone Redoubled Redoubled r s same = (refl, cc)
 
-pub doubling_found : (d : Doubling) (input : List ℕ) (rest : Bor (List ℕ)) → spaced d ++ rest.now ≡ input → Takes Any spaced Any input (Some (d, rest))
+pub doubling_found : (d : Doubling) (input : List ℕ) (rest : Bor (List ℕ)) → spaced d ++ rest.now ≡ input → Takes Always spaced Always input (Some (d, rest))
 doubling_found d input rest split = record {
   stands = (tt, split);
   exact = λ x tail _ _ e. alone d x rest.now tail (split ∙ sym e);

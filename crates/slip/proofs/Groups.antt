@@ -4,7 +4,7 @@ use Rattle.std.proofs.lemmas.Fmt.{decimal_digit}
 use Rattle.std.proofs.lemmas.Bool.{cases_lt, cond-true, cond-false, eq-eqb, ne_eqb}
 use Rattle.returns.specs.declared.group.Group.{Group}
 use Rattle.returns.proofs.Same.{same_group}
-use Rattle.slip.specs.Parts.{Whole, Any, IsEnd}
+use Rattle.slip.specs.Parts.{Whole, Always, IsEnd}
 use Rattle.slip.specs.Slips.{group_text}
 
 pub some_group : (g : Group) → 1 ≤ g.number → group_text g ≡ codes " G" ++ decimal g.number
@@ -22,7 +22,7 @@ group_at_end g e = elim (cases_lt 0 g.number) [
   | inr none ↦ omega arith
 ]
 
-pub group_zero : (g : Group) (input : List ℕ) → g.number ≡ 0 → input ≡ [] → Whole Any group_text input (Some g)
+pub group_zero : (g : Group) (input : List ℕ) → g.number ≡ 0 → input ≡ [] → Whole Always group_text input (Some g)
 group_zero g input zero empty = record {
   stands = (tt, no_group g zero ∙ sym empty);
   exact = λ h _ e. ap Some (same_group g h (zero ∙ sym (group_at_end h (e ∙ empty))));
@@ -42,7 +42,7 @@ single (b ∷ d ∷ bytes) e = absurd (omega arith)
 
 pub group_read : (input rest : List ℕ) (digit : ℕ) (answer : Option Group) → input ≡ codes " G" ++ rest → (length rest ≡ 1) × (get_or rest 0 0 ≡ digit)
     → MatchOption answer ((g : Group) → 1 ≤ g.number → 48 + g.number ≡ digit → ⊥) (λ g. (1 ≤ g.number) × (48 + g.number ≡ digit))
-    → Whole Any group_text input answer
+    → Whole Always group_text input answer
 group_read input rest digit (Some g) split one found =
     let text : group_text g ≡ input = written_group g found.0 ∙ ap (λ d. 32 ∷ 71 ∷ d ∷ []) (found.1 ∙ sym one.1) ∙ sym (split ∙ ap (λ r. codes " G" ++ r) (single rest one.0)) in
     record {
@@ -60,7 +60,7 @@ group_read input rest digit None split one none = record {
       absurd (none h above (ap (λ l. get_or l 2 0) (sym (written_group h above) ∙ e ∙ split) ∙ one.1));
 }
 
-pub group_too_long : (input rest : List ℕ) → input ≡ codes " G" ++ rest → (length rest ≡ 1 → ⊥) → Whole Any group_text input None
+pub group_too_long : (input rest : List ℕ) → input ≡ codes " G" ++ rest → (length rest ≡ 1 → ⊥) → Whole Always group_text input None
 group_too_long input rest split not_one = record {
   stands = tt;
   exact = λ h _ e.

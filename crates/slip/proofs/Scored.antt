@@ -11,7 +11,7 @@ use Rattle.returns.specs.declared.returned.Return.{Return}
 use Rattle.returns.specs.declared.returned.Return.TheVariants.{Scored, Passed, Averages}
 use Rattle.slip.specs.Letters.{denomination_text, doubling_text, declarer_text}
 use Rattle.slip.specs.Slips.{group_text, slip_of}
-use Rattle.slip.specs.Parts.{Takes, Whole, Any, IsLevel, IsTricks, IsEnd, IsScored}
+use Rattle.slip.specs.Parts.{Takes, Whole, Always, IsLevel, IsTricks, IsEnd, IsScored}
 use Rattle.slip.proofs.Chains.{Part, Left, Form, past, past_word, value, not_there, none_of, this_one}
 use Rattle.slip.proofs.Doublings.{spaced}
 use Rattle.slip.proofs.Groups.{group_ends}
@@ -42,16 +42,16 @@ after_denomination (c, g) = doubling_text c.doubling ++ (codes " " ++ after_doub
 abbrev pub after_level : Play → List ℕ
 after_level (c, g) = denomination_text c.denomination ++ after_denomination (c, g)
 
-abbrev level_part : Part IsLevel decimal Any scored after_level
+abbrev level_part : Part IsLevel decimal Always scored after_level
 level_part = record { of = λ x. x.0.level; is = λ x. (x.0.lowest, x.0.highest); ends = λ _. tt; split = λ _. refl }
 
-abbrev denomination_part : Part (ContainsAt denominations) denomination_text Any after_level after_denomination
+abbrev denomination_part : Part (ContainsAt denominations) denomination_text Always after_level after_denomination
 denomination_part = record { of = λ x. x.0.denomination; is = λ x. every_denomination x.0.denomination; ends = λ _. tt; split = λ _. refl }
 
-abbrev doubling_part : Part Any spaced Any after_denomination after_doubling
+abbrev doubling_part : Part Always spaced Always after_denomination after_doubling
 doubling_part = record { of = λ x. x.0.doubling; is = λ _. tt; ends = λ _. tt; split = λ x. append_assoc (doubling_text x.0.doubling) (codes " ") (after_doubling x) }
 
-abbrev declarer_part : Part (ContainsAt declarers) declarer_text Any after_doubling after_declarer
+abbrev declarer_part : Part (ContainsAt declarers) declarer_text Always after_doubling after_declarer
 declarer_part = record { of = λ x. x.0.declarer; is = λ x. every_declarer x.0.declarer; ends = λ _. tt; split = λ _. refl }
 
 abbrev tricks_part : Part IsTricks decimal IsEnd after_space after_tricks
@@ -65,28 +65,28 @@ every_scored (Averages ns ew) is = absurd is
 abbrev scored_form : Form IsScored Play
 scored_form = record { make = λ x. Scored x.0 x.1; is = λ _. tt; all = every_scored }
 
-module _ {input : List ℕ} {level : ℕ} {r₁ : Bor (List ℕ)} (t₁ : Takes IsLevel decimal Any input (Some (level, r₁))) where
+module _ {input : List ℕ} {level : ℕ} {r₁ : Bor (List ℕ)} (t₁ : Takes IsLevel decimal Always input (Some (level, r₁))) where
   left₁ : Left scored input after_level r₁.now
   left₁ = past level_part (λ x e. e) t₁
 
-  pub no_denomination : Takes (ContainsAt denominations) denomination_text Any r₁.now None → Whole IsScored slip_of input None
+  pub no_denomination : Takes (ContainsAt denominations) denomination_text Always r₁.now None → Whole IsScored slip_of input None
   no_denomination none = none_of scored_form input (not_there denomination_part left₁ none)
 
-  module _ {denomination : Denomination} {r₂ : Bor (List ℕ)} (t₂ : Takes (ContainsAt denominations) denomination_text Any r₁.now (Some (denomination, r₂))) where
+  module _ {denomination : Denomination} {r₂ : Bor (List ℕ)} (t₂ : Takes (ContainsAt denominations) denomination_text Always r₁.now (Some (denomination, r₂))) where
     left₂ : Left scored input after_denomination r₂.now
     left₂ = past denomination_part left₁ t₂
 
-    pub no_doubling : Takes Any spaced Any r₂.now None → Whole IsScored slip_of input None
+    pub no_doubling : Takes Always spaced Always r₂.now None → Whole IsScored slip_of input None
     no_doubling none = none_of scored_form input (not_there doubling_part left₂ none)
 
-    module _ {doubling : Doubling} {r₃ : Bor (List ℕ)} (t₃ : Takes Any spaced Any r₂.now (Some (doubling, r₃))) where
+    module _ {doubling : Doubling} {r₃ : Bor (List ℕ)} (t₃ : Takes Always spaced Always r₂.now (Some (doubling, r₃))) where
       left₃ : Left scored input after_doubling r₃.now
       left₃ = past doubling_part left₂ t₃
 
-      pub no_declarer : Takes (ContainsAt declarers) declarer_text Any r₃.now None → Whole IsScored slip_of input None
+      pub no_declarer : Takes (ContainsAt declarers) declarer_text Always r₃.now None → Whole IsScored slip_of input None
       no_declarer none = none_of scored_form input (not_there declarer_part left₃ none)
 
-      module _ {declarer : Declarer} {r₄ : Bor (List ℕ)} (t₄ : Takes (ContainsAt declarers) declarer_text Any r₃.now (Some (declarer, r₄))) where
+      module _ {declarer : Declarer} {r₄ : Bor (List ℕ)} (t₄ : Takes (ContainsAt declarers) declarer_text Always r₃.now (Some (declarer, r₄))) where
         left₄ : Left scored input after_declarer r₄.now
         left₄ = past declarer_part left₃ t₄
 
@@ -104,13 +104,13 @@ module _ {input : List ℕ} {level : ℕ} {r₁ : Bor (List ℕ)} (t₁ : Takes 
             left₆ : Left scored input after_tricks r₆.now
             left₆ = past tricks_part left₅ t₆
 
-            pub no_group_read : Whole Any group_text r₆.now None → Whole IsScored slip_of input None
+            pub no_group_read : Whole Always group_text r₆.now None → Whole IsScored slip_of input None
             no_group_read none = none_of scored_form input (λ x e. never (none.exact x.1 tt (left₆ x e))) where
               never : {g : Group} → None ≡ Some g → ⊥
               never e = grind arith
 
             pub scored_read : (c : Contract) (g : Group) → c.level ≡ level → c.denomination ≡ denomination → c.doubling ≡ doubling → c.declarer ≡ declarer → c.tricks ≡ tricks
-                → Whole Any group_text r₆.now (Some g) → Whole IsScored slip_of input (Some (Scored c g))
+                → Whole Always group_text r₆.now (Some g) → Whole IsScored slip_of input (Some (Scored c g))
             scored_read c g l d b w n last = this_one scored_form input (c, g) text only where
               text : slip_of (Scored c g) ≡ input
               text =

@@ -9,7 +9,7 @@ use Rattle.contract.specs.declared.contract.Denomination.{Denomination}
 use Rattle.contract.specs.declared.contract.Denomination.TheVariants.{Clubs, Diamonds, Hearts, Spades, NoTrump}
 use Rattle.returns.specs.declared.average.Average.{Average}
 use Rattle.returns.specs.declared.average.Average.TheVariants.{Plus, Even, Minus}
-use Rattle.slip.specs.Parts.{Takes, Any}
+use Rattle.slip.specs.Parts.{Takes, Always}
 
 -- a text of one byte at the front
 one_byte : (text tail : List ℕ) (b : ℕ) (rest : List ℕ) → length text ≡ 1 → text ++ tail ≡ b ∷ rest → (text ≡ b ∷ []) × (rest ≡ tail)
@@ -46,7 +46,7 @@ every_average Minus = (2, lit< tt, λ _. refl)
 
 module _ {X : Type 0} (text : X → List ℕ) (single : (x : X) → length (text x) ≡ 1) (distinct : (x y : X) → text x ≡ text y → x ≡ y) where
   pub symbol_found : (all : List X) (x : X) (input : List ℕ) (rest : Bor (List ℕ)) → get_or input 0 0 ∷ rest.now ≡ input
-      → ContainsAt all x → text x ≡ get_or input 0 0 ∷ [] → Takes (ContainsAt all) text Any input (Some (x, rest))
+      → ContainsAt all x → text x ≡ get_or input 0 0 ∷ [] → Takes (ContainsAt all) text Always input (Some (x, rest))
   symbol_found all x input rest split has is = record {
     stands = (has, ap (λ t. t ++ rest.now) is ∙ split);
     exact = λ y tail _ _ e.
@@ -55,7 +55,7 @@ module _ {X : Type 0} (text : X → List ℕ) (single : (x : X) → length (text
   }
 
   pub symbol_none : (all : List X) (input : List ℕ) → 0 < length input
-      → AllWithin (λ y. text y ≡ get_or input 0 0 ∷ [] → ⊥) all 0 (length all) → Takes (ContainsAt all) text Any input None
+      → AllWithin (λ y. text y ≡ get_or input 0 0 ∷ [] → ⊥) all 0 (length all) → Takes (ContainsAt all) text Always input None
   symbol_none all input some no_such = record {
     stands = tt;
     exact = λ y tail has _ e.

@@ -4,8 +4,8 @@ use Rattle.std.specs.Borrow.{Bor}
 use Rattle.returns.specs.declared.returned.Return.{Return}
 use Rattle.returns.specs.declared.returned.Return.TheVariants.{Scored, Passed, Averages}
 
-abbrev pub Any : {X : Type 0} → X → Type 0
-Any _ = Unit {0}
+abbrev pub Always : {X : Type 0} → X → Type 0
+Always _ = Unit {0}
 
 abbrev pub IsLevel : ℕ → Type 0
 IsLevel n = (1 ≤ n) × (n ≤ 7)

@@ -1,7 +1,7 @@
 // The doubling, read and written.
 ghost use Rattle.std.specs.Prelude.{◌≡◌, ◌+◌, ◌≤◌, ◌++◌, codes};
 ghost use Rattle.slip.specs.Letters.{doubling_text};
-ghost use Rattle.slip.specs.Parts.{Takes, Any};
+ghost use Rattle.slip.specs.Parts.{Takes, Always};
 ghost use Rattle.slip.specs.Texts.{written};
 
 use crate::text::Text;
@@ -9,7 +9,7 @@ use contract::Doubling;
 
 /// The doubling, and the space behind it.
 pub(crate) fn take_doubling(input: &[u8]) -> Option<(Doubling, &[u8])>
-    ensures { Takes Any (λ d. doubling_text d ++ codes " ") Any input.now result }
+    ensures { Takes Always (λ d. doubling_text d ++ codes " ") Always input.now result }
 {
     match input {
         [b' ', rest @ ..] => Some((Doubling::Undoubled, rest)),

@@ -1,6 +1,6 @@
 // The group, read and written.
 ghost use Rattle.std.specs.Prelude.{◌≡◌, ◌+◌, ◌≤◌, ◌++◌, length, MatchOption, ◌≢◌, slice_index};
-ghost use Rattle.slip.specs.Parts.{Whole, Any};
+ghost use Rattle.slip.specs.Parts.{Whole, Always};
 ghost use Rattle.slip.specs.Slips.{group_text};
 ghost use Rattle.slip.specs.Texts.{written};
 
@@ -30,7 +30,7 @@ fn only(input: &[u8]) -> Option<u8>
 
 /// The group, to the end of the input.
 pub(crate) fn read_group(input: &[u8]) -> Option<Group>
-    ensures { Whole Any group_text input.now result }
+    ensures { Whole Always group_text input.now result }
 {
     if input.is_empty() {
         return Some(Group { number: 0 });

@@ -1,6 +1,6 @@
 // Levels and tricks, read and written.
 ghost use Rattle.std.specs.Prelude.{◌≡◌, ℕ, ◌+◌, ◌≤◌, ◌++◌, decimal, MatchOption, ◌≢◌};
-ghost use Rattle.slip.specs.Parts.{Takes, Any, IsLevel, IsTricks, IsEnd};
+ghost use Rattle.slip.specs.Parts.{Takes, Always, IsLevel, IsTricks, IsEnd};
 ghost use Rattle.slip.specs.Texts.{written};
 
 use crate::text::Text;
@@ -15,7 +15,7 @@ fn level_of(digit: u8) -> Option<u8>
 }
 
 pub(crate) fn take_level(input: &[u8]) -> Option<(u8, &[u8])>
-    ensures { Takes IsLevel decimal Any input.now result }
+    ensures { Takes IsLevel decimal Always input.now result }
 {
     let [first, rest @ ..] = input else {
         return None;

@@ -2,7 +2,7 @@
 ghost use Rattle.std.specs.Prelude.{◌≡◌, ℕ, List, [], ◌∷◌, length};
 ghost use Rattle.std.specs.List.{ContainsAt};
 ghost use Rattle.slip.specs.Letters.{denomination_text, declarer_text, average_text};
-ghost use Rattle.slip.specs.Parts.{Takes, Any};
+ghost use Rattle.slip.specs.Parts.{Takes, Always};
 ghost use Rattle.std.proofs.Common.{rules};
 
 use contract::{Declarer, Denomination};
@@ -73,7 +73,7 @@ impl Symbol for Average {
 
 /// Reads one of these symbols.
 pub(crate) fn take_symbol<'a, S: Symbol>(all: &[S], input: &'a [u8]) -> Option<(S, &'a [u8])>
-    ensures { Takes (ContainsAt all.now) S.Symbol.text Any input.now result }
+    ensures { Takes (ContainsAt all.now) S.Symbol.text Always input.now result }
 {
     let [first, rest @ ..] = input else {
         return None;

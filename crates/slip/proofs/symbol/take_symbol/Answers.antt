@@ -1,14 +1,14 @@
 use Rattle.std.proofs.Common.{◌≡◌, ◌<◌, [], ◌∷◌, length, get_or, refl, arith, rules}
 use Rattle.std.proofs.lemmas.List.Elements.{at_read}
 use Rattle.std.specs.List.{ContainsAt}
-use Rattle.slip.specs.Parts.{Any}
+use Rattle.slip.specs.Parts.{Always}
 use Rattle.slip.proofs.Inputs.{begins, nothing_left}
 use Rattle.slip.proofs.Symbols.{symbol_found, symbol_none}
 use Rattle.slip.proofs.symbol.take_symbol.Goals as goal
 
 pub returns-in_default : goal.returns-in_default
 returns-in_default g c =
-    nothing_left (ContainsAt c.args.all.now) g.S.Symbol.text Any (λ x is. omega (arith, g.met.S.Symbol.single x)) c.args.input.now (search rules)
+    nothing_left (ContainsAt c.args.all.now) g.S.Symbol.text Always (λ x is. omega (arith, g.met.S.Symbol.single x)) c.args.input.now (search rules)
 
 pub returns-then-byte-first : goal.returns-then-byte-first
 returns-then-byte-first g c =
