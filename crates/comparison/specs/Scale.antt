@@ -1,5 +1,5 @@
 -- A scale of rising starts, and the step of a difference on it.
-use Rattle.std.specs.Prelude.{◌≡◌, ℕ, zero, suc, ◌+◌, ◌<◌, ◌≤◌, Bool, true, cond, ◌&&◌, leb, ◌↔◌, List, [], ◌∷◌, length, count_by, nat_le, nat_lt, slice_index, refl}
+use Rattle.std.specs.Prelude.{◌≡◌, ℕ, zero, suc, ◌+◌, ◌<◌, ◌≤◌, Bool, true, if◌then◌else◌, ◌&&◌, ◌↔◌, List, [], ◌∷◌, length, count_by, nat_le, nat_lt, slice_index, refl}
 use Rattle.std.proofs.Common.{inl, inr, ◌∙◌, arith}
 use Rattle.std.proofs.lemmas.List.Sums.{sum_by-cons, count_by-le-length}
 use Rattle.std.proofs.lemmas.Bool.{and_parts, cases_lt, le-leb, lt-leb, ltb-true}
@@ -8,15 +8,15 @@ use Rattle.comparison.specs.Ways.{imp_starts, imp_step}
 
 -- how many of the starts a difference reaches
 reached : ℕ → List ℕ → ℕ
-reached d starts = count_by (λ start. leb start d) starts
+reached d starts = count_by (λ start. nat_le start d) starts
 
 reached_none : (d : ℕ) → reached d [] ≡ 0
 unfolding reached
 reached_none d = refl
 
-reached-cons : (d x : ℕ) (xs : List ℕ) → reached d (x ∷ xs) ≡ cond (nat_le x d) 1 0 + reached d xs
+reached-cons : (d x : ℕ) (xs : List ℕ) → reached d (x ∷ xs) ≡ (if nat_le x d then 1 else 0) + reached d xs
 unfolding reached
-reached-cons d x xs = sum_by-cons (λ start. cond (nat_le start d) 1 0) x xs
+reached-cons d x xs = sum_by-cons (λ start. if nat_le start d then 1 else 0) x xs
 
 reached_yes : (d x : ℕ) (xs : List ℕ) → x ≤ d → reached d (x ∷ xs) ≡ 1 + reached d xs
 reached_yes d x xs h = let e = le-leb x d h in rw (reached-cons d x xs, e)
@@ -34,7 +34,7 @@ step_rising m n h = reached_rising m n h imp_starts
 
 pub step_most : (n : ℕ) → imp_step n ≤ 24
 unfolding imp_step
-step_most n = count_by-le-length (λ start. leb start n) imp_starts
+step_most n = count_by-le-length (λ start. nat_le start n) imp_starts
 
 pub step_zero : imp_step 0 ≡ 0
 unfolding imp_step

@@ -14,6 +14,13 @@ pub record Way : Type 0 where
   -- the number of this way in a book
   pub code : ℕ
 
+-- these are the constants of the way
+pub record HasConstants (w : Way) (tie lift scale code : ℕ) : Type 0 where
+  pub tie_is : w.tie ≡ tie
+  pub lift_is : w.lift ≡ lift
+  pub scale_is : w.scale ≡ scale
+  pub code_is : w.code ≡ code
+
 pub record Lawful (w : Way) : Type 0 where
   -- the two sides of a comparison add up to twice the tie value
   pub balanced : (a b : Score) → w.compare a b +ℤ w.compare b a ≡ pos (2 * w.tie)

@@ -1,10 +1,10 @@
 -- The three ways of comparing of Law 78 of the Laws of Duplicate Bridge.
-use Rattle.std.specs.Prelude.{ℕ, suc, cond, List, [], ◌∷◌, ℤ, pos, negsuc, ◌-ℤ◌, neg_ℤ, count_by, int_lt, nat_le}
+use Rattle.std.specs.Prelude.{ℕ, suc, if◌then◌else◌, List, [], ◌∷◌, ℤ, pos, negsuc, ◌-ℤ◌, neg_ℤ, count_by, int_lt, nat_le}
 use Rattle.comparison.specs.Way.{Way}
 
 -- two for a better score, one for an equal one
 abbrev pub matchpoints_won : ℤ → ℤ → ℤ
-matchpoints_won a b = cond (int_lt b a) (pos 2) (cond (int_lt a b) (pos 0) (pos 1))
+matchpoints_won a b = if int_lt b a then pos 2 else (if int_lt a b then pos 0 else pos 1)
 
 abbrev pub matchpoints : Way
 matchpoints = record { compare = λ a b. matchpoints_won a.points b.points; tie = 1; lift = 1; scale = 50; code = 1 }

@@ -1,10 +1,10 @@
 // International match points: the difference of two scores on a scale of 24 steps.
-ghost use Rattle.std.specs.Prelude.{◌≡◌, ℕ, ◌<◌, ◌≤◌, ◌↔◌, slice_index};
+ghost use Rattle.std.specs.Prelude.{◌≡◌, ℕ, ◌<◌, ◌≤◌, ◌↔◌, slice_index, count_by, nat_le};
 ghost use Rattle.comparison.specs.Ways.{imps, imp_starts, imp_step};
 ghost use Rattle.comparison.specs.Signs.{imps_lawful};
+ghost use Rattle.std.proofs.Common.{rules};
 
-use crate::constants_of;
-use crate::way::{ComparePoints, Comparison, Constants};
+use crate::way::{ComparePoints, Comparison};
 use scoring::Score;
 
 #[derive(Clone, Copy, Debug)]
@@ -22,14 +22,15 @@ impl Imps {
         ensures value { result ≡ imp_step difference }
         ensures starts { (k : ℕ) → k < 24 → (k < result) ↔ (slice_index imp_starts k ≤ difference) }
     {
-        let mut step = 0;
-        for start in STARTS.iter() {
-            if *start <= difference {
-                step += 1;
-            }
-        }
-        step
+        reached(&STARTS, difference) as u8
     }
+}
+
+// How many of the starts a difference reaches.
+fn reached(starts: &[u16], difference: u16) -> usize
+    ensures { result ≡ count_by (λ start. nat_le start difference) starts.now }
+{
+    starts.iter().filter(|start| **start <= difference).count()
 }
 
 impl Comparison for Imps {
@@ -41,7 +42,17 @@ impl Comparison for Imps {
 
     const CODE: u8 = 2;
 
+    ghost TIE_VALUE = { imps.tie };
+
+    ghost LIFT = { imps.lift };
+
+    ghost SCALE = { imps.scale };
+
+    ghost CODE = { imps.code };
+
     ghost way = { λ _. imps };
+
+    ghost tied = { Prim.search rules };
 
     ghost lawful = { λ c. imps_lawful };
 
@@ -49,9 +60,5 @@ impl Comparison for Imps {
         let (own, other) = (own.points(), other.points());
         let step = i32::from(Imps::step(own.abs_diff(other)));
         ComparePoints(if own < other { -step } else { step })
-    }
-
-    fn constants(&self) -> Constants {
-        constants_of!(Self)
     }
 }

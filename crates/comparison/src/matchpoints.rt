@@ -2,9 +2,9 @@
 ghost use Rattle.comparison.specs.Ways.{matchpoints};
 ghost use Rattle.std.proofs.Common.{rules};
 
-use crate::constants_of;
-use crate::way::{ComparePoints, Comparison, Constants};
+use crate::way::{ComparePoints, Comparison};
 use scoring::Score;
+use std::cmp::Ordering;
 
 #[derive(Clone, Copy, Debug)]
 pub struct Matchpoints;
@@ -18,22 +18,25 @@ impl Comparison for Matchpoints {
 
     const CODE: u8 = 1;
 
+    ghost TIE_VALUE = { matchpoints.tie };
+
+    ghost LIFT = { matchpoints.lift };
+
+    ghost SCALE = { matchpoints.scale };
+
+    ghost CODE = { matchpoints.code };
+
     ghost way = { λ _. matchpoints };
+
+    ghost tied = { Prim.search rules };
 
     ghost lawful = { Prim.search rules };
 
     fn compare(&self, own: Score, other: Score) -> ComparePoints {
-        let (own, other) = (own.points(), other.points());
-        if own > other {
-            ComparePoints(2)
-        } else if own < other {
-            ComparePoints(0)
-        } else {
-            ComparePoints(1)
-        }
-    }
-
-    fn constants(&self) -> Constants {
-        constants_of!(Self)
+        ComparePoints(match own.cmp(&other) {
+            Ordering::Greater => 2,
+            Ordering::Equal => 1,
+            Ordering::Less => 0,
+        })
     }
 }

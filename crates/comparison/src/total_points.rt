@@ -2,8 +2,7 @@
 ghost use Rattle.comparison.specs.Ways.{total_points};
 ghost use Rattle.std.proofs.Common.{rules};
 
-use crate::constants_of;
-use crate::way::{ComparePoints, Comparison, Constants};
+use crate::way::{ComparePoints, Comparison};
 use scoring::Score;
 
 #[derive(Clone, Copy, Debug)]
@@ -18,15 +17,21 @@ impl Comparison for TotalPoints {
 
     const CODE: u8 = 3;
 
+    ghost TIE_VALUE = { total_points.tie };
+
+    ghost LIFT = { total_points.lift };
+
+    ghost SCALE = { total_points.scale };
+
+    ghost CODE = { total_points.code };
+
     ghost way = { λ _. total_points };
+
+    ghost tied = { Prim.search rules };
 
     ghost lawful = { Prim.search rules };
 
     fn compare(&self, own: Score, other: Score) -> ComparePoints {
         ComparePoints(i32::from(own.points()) - i32::from(other.points()))
-    }
-
-    fn constants(&self) -> Constants {
-        constants_of!(Self)
     }
 }

@@ -1,6 +1,6 @@
 // What every way of comparing has to be.
-ghost use Rattle.std.specs.Prelude.{◌≡◌};
-ghost use Rattle.comparison.specs.Way.{Way, Lawful};
+ghost use Rattle.std.specs.Prelude.{◌≡◌, ℕ};
+ghost use Rattle.comparison.specs.Way.{Way, Lawful, HasConstants};
 
 use scoring::Score;
 
@@ -21,19 +21,6 @@ pub struct Constants {
     pub code: u8,
 }
 
-/// The associated constants of an implementation, as a value: the body of its `constants`.
-#[macro_export]
-macro_rules! constants_of {
-    ($way:ty) => {
-        $crate::Constants {
-            tie_value: <$way>::TIE_VALUE,
-            lift: <$way>::LIFT,
-            scale: <$way>::SCALE,
-            code: <$way>::CODE,
-        }
-    };
-}
-
 /// A way of comparing two scores. It means a `Way`, and no implementation exists without the laws of one.
 pub trait Comparison {
     const TIE_VALUE: u16;
@@ -44,18 +31,37 @@ pub trait Comparison {
 
     const CODE: u8;
 
+    ghost TIE_VALUE: { ℕ };
+
+    ghost LIFT: { ℕ };
+
+    ghost SCALE: { ℕ };
+
+    ghost CODE: { ℕ };
+
     ghost way: { Self → Way };
 
     /// What the holder of `own` wins from the holder of `other`.
     fn compare(&self, own: Score, other: Score) -> ComparePoints
         ensures { result.0 ≡ (way self.now).compare own other };
 
+    // The constants are those of the meaning.
+    ghost tied: { (c : Self) → HasConstants (way c) TIE_VALUE LIFT SCALE CODE };
+
+    ghost lawful: { (c : Self) → Lawful (way c) };
+
     /// The four constants of the trait, tied to the meaning.
-    fn constants(&self) -> Constants
+    final fn constants(&self) -> Constants
         ensures tie { result.tie_value ≡ (way self.now).tie }
         ensures lift { result.lift ≡ (way self.now).lift }
         ensures scale { result.scale ≡ (way self.now).scale }
-        ensures code { result.code ≡ (way self.now).code };
-
-    ghost lawful: { (c : Self) → Lawful (way c) };
+        ensures code { result.code ≡ (way self.now).code }
+    {
+        Constants {
+            tie_value: Self::TIE_VALUE,
+            lift: Self::LIFT,
+            scale: Self::SCALE,
+            code: Self::CODE,
+        }
+    }
 }

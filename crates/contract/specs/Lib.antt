@@ -1,1 +1,2 @@
 pub mod Vulnerable
+pub mod Words

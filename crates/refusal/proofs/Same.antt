@@ -1,11 +1,11 @@
 -- Two refusals are the same exactly where their numbers are: what `==` and `!=` answer, also where a bound stands for the type.
 use Rattle.std.proofs.Common.{◌≡◌, ◌==◌, ap, arith, eqb-true, eq-eqb}
-use Rattle.std.specs.Prelude.{Decides}
+use Rattle.std.specs.Prelude.{IsTrue, ◌↔◌}
 use Rattle.refusal.specs.declared.Refusal.{Refusal}
 use Rattle.refusal.specs.Numbers.{number_of}
 
 same_number : (x y : Refusal) → number_of x ≡ number_of y → x ≡ y
 same_number x y e = grind arith
 
-pub same_refusal : (x y : Refusal) → Decides (number_of x == number_of y) (x ≡ y)
+pub same_refusal : (x y : Refusal) → IsTrue (number_of x == number_of y) ↔ (x ≡ y)
 same_refusal x y = (λ e. same_number x y (eqb-true (number_of x) (number_of y) e), λ e. eq-eqb (number_of x) (number_of y) (ap number_of e))

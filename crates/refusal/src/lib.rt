@@ -2,17 +2,14 @@
 
 #![tactic(auto)]
 
-ghost use Rattle.std.specs.Prelude.{◌≡◌, ◌==◌, ◌++◌, Some, codes, decimal, Decides};
+ghost use Rattle.std.specs.Prelude.{◌≡◌, ◌++◌, Some, codes, decimal};
 ghost use Rattle.refusal.specs.Numbers.{number_of, meaning_of};
-ghost use Rattle.std.specs.Cmp.Rules.{comparing};
-ghost use Rattle.std.proofs.Common.{rules};
-ghost use Rattle.std.specs.Ordering.{on};
 
 use std::error::Error;
 use std::fmt;
 
 /// Why a call was refused. A refused call has changed nothing.
-#[derive(Clone, Copy, Eq, Debug)]
+#[derive(Clone, Copy, PartialEq, Eq, Debug)]
 pub enum Refusal {
     /// The movement is not made for this number of tables.
     TablesOutOfRange = 1,
@@ -96,20 +93,6 @@ impl fmt::Display for Refusal {
         let number = self.number();
         let meaning = self.meaning();
         write!(f, "{number}: {meaning}")
-    }
-}
-
-/// Two refusals are equal where their numbers are.
-impl PartialEq for Refusal {
-    ghost eq = { on number_of ◌==◌ };
-
-    ghost laws = { Prim.search (comparing, rules) };
-
-    fn eq(&self, other: &Refusal) -> bool
-        ensures number { result ≡ (number_of self.now == number_of other.now) }
-        ensures same { Decides result (self.now ≡ other.now) }
-    {
-        self.number() == other.number()
     }
 }
 

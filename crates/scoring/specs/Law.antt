@@ -1,5 +1,5 @@
 -- What a contract scores, rule by rule: Law 77 of the Laws of Duplicate Bridge.
-use Rattle.std.specs.Prelude.{◌≡◌, ℕ, zero, suc, ◌+◌, ◌-◌, ◌*◌, ◌<◌, ◌≤◌, Bool, cond, ℤ, pos, neg_ℤ, ◌==◌, nat_le}
+use Rattle.std.specs.Prelude.{◌≡◌, ℕ, zero, suc, ◌+◌, ◌-◌, ◌*◌, ◌<◌, ◌≤◌, Bool, if◌then◌else◌, ℤ, pos, neg_ℤ, ◌==◌, nat_le}
 use Rattle.contract.specs.declared.contract.Contract.{Contract}
 use Rattle.contract.specs.declared.contract.Denomination.{Denomination}
 use Rattle.contract.specs.declared.contract.Denomination.TheVariants.{Clubs, Diamonds, Hearts, Spades, NoTrump}
@@ -38,10 +38,10 @@ trick_points_of c = (c.level * trick_value c.denomination + first_trick_extra c.
 
 -- a game has 100 trick points, doubling counted; v says whether declarer's side is vulnerable
 abbrev pub game_premium_of : Bool → Contract → ℕ
-game_premium_of v c = cond (nat_le 100 (trick_points_of c)) (cond v 500 300) 50
+game_premium_of v c = if nat_le 100 (trick_points_of c) then (if v then 500 else 300) else 50
 
 abbrev pub slam_premium_of : Bool → ℕ → ℕ
-slam_premium_of v level = cond (level == 6) (cond v 750 500) (cond (level == 7) (cond v 1500 1000) 0)
+slam_premium_of v level = if level == 6 then (if v then 750 else 500) else (if level == 7 then (if v then 1500 else 1000) else 0)
 
 abbrev pub insult_premium_of : Doubling → ℕ
 insult_premium_of Undoubled = 0
@@ -50,8 +50,8 @@ insult_premium_of Redoubled = 100
 
 abbrev pub overtrick_value : Bool → Denomination → Doubling → ℕ
 overtrick_value v denomination Undoubled = trick_value denomination
-overtrick_value v denomination Doubled = cond v 200 100
-overtrick_value v denomination Redoubled = 2 * cond v 200 100
+overtrick_value v denomination Doubled = if v then 200 else 100
+overtrick_value v denomination Redoubled = 2 * (if v then 200 else 100)
 
 abbrev pub overtrick_points_of : Bool → Contract → ℕ
 overtrick_points_of v c = (c.tricks - needed c) * overtrick_value v c.denomination c.doubling
@@ -62,10 +62,10 @@ made_score v c =
 
 -- what the k-th undertrick costs when doubled
 abbrev pub doubled_undertrick : Bool → ℕ → ℕ
-doubled_undertrick v k = cond (nat_le k 1) (cond v 200 100) (cond (nat_le k 3) (cond v 300 200) 300)
+doubled_undertrick v k = if nat_le k 1 then (if v then 200 else 100) else (if nat_le k 3 then (if v then 300 else 200) else 300)
 
 abbrev pub undertrick : Bool → Doubling → ℕ → ℕ
-undertrick v Undoubled k = cond v 100 50
+undertrick v Undoubled k = if v then 100 else 50
 undertrick v Doubled k = doubled_undertrick v k
 undertrick v Redoubled k = 2 * doubled_undertrick v k
 
@@ -93,10 +93,11 @@ outcome_points (Made m) = pos (m.trick_points + m.game_premium + m.slam_premium 
 outcome_points (Down u) = neg_ℤ (pos u.penalty)
 
 unfoldable pub declarer_score : Bool → Contract → ℤ
-declarer_score v c = cond (nat_le (needed c) c.tricks) (pos (made_score v c)) (neg_ℤ (pos (penalty v c.doubling (needed c - c.tricks))))
+declarer_score v c =
+    if nat_le (needed c) c.tricks then pos (made_score v c) else neg_ℤ (pos (penalty v c.doubling (needed c - c.tricks)))
 
 -- the score for North-South
 abbrev pub score_on : ℕ → Contract → ℤ
 score_on board c =
     let s = declarer_score (vulnerable (vulnerability_of board) c.declarer) c in
-    cond (north_south c.declarer) s (neg_ℤ s)
+    if north_south c.declarer then s else neg_ℤ s

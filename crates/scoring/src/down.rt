@@ -27,6 +27,7 @@ pub(crate) fn penalty(doubling: Doubling, vulnerable: bool, undertricks: u8) -> 
     requires { undertricks ≤ 13 }
     ensures { result ≡ penalty vulnerable doubling undertricks }
 {
+    // A loop, since the sum of a chain over a range is not proved to fit.
     let mut sum = 0;
     for place in 0..undertricks {
         sum += undertrick(doubling, vulnerable, place + 1);
