@@ -53,7 +53,10 @@ impl fmt::Display for Contract {
     fn fmt<W: fmt::Write>(&self, f: &mut fmt::Formatter<W>) -> fmt::Result {
         let (level, denomination, doubling) = (self.level, self.denomination, self.doubling);
         let (declarer, tricks) = (self.declarer, self.tricks);
-        write!(f, "{level} {denomination}{doubling} by {declarer}, {tricks} tricks")
+        write!(
+            f,
+            "{level} {denomination}{doubling} by {declarer}, {tricks} tricks"
+        )
     }
 }
 
