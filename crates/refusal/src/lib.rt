@@ -86,6 +86,7 @@ impl Refusal {
 }
 
 /// As `13: level, tricks or group out of range`.
+// Written out, since no clause can name the text that a derive makes.
 impl fmt::Display for Refusal {
     ghost output = { λ x. Some (decimal (number_of x) ++ (codes ": " ++ meaning_of x)) };
 

@@ -1,4 +1,5 @@
-// What a made contract scores, part by part.
+// What a made contract scores, part by part. Each rule is a function of its own, a small table as in the law, and takes just what
+// the rule reads: a struct of the contract and the vulnerability would hide which rules read both.
 ghost use Rattle.std.specs.Prelude.{◌≡◌};
 ghost use Rattle.scoring.specs.Law.{trick_value, first_trick_extra, multiplier, trick_points_of, game_premium_of, slam_premium_of, insult_premium_of, overtrick_value};
 

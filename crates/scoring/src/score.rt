@@ -16,6 +16,7 @@ impl Score {
         Score { points: 0 }
     }
 
+    // An option and no `TryFrom`, since no refusal stands for a score out of range.
     pub fn new(points: i16) -> Option<Score>
         ensures { MatchOption result (ScoreRange points → ⊥) (λ s. s.points ≡ points) }
     {
