@@ -1,23 +1,14 @@
 -- What stands on a guide card.
-use Rattle.std.specs.Prelude.{ℕ, zero, suc, cond, List, [], ◌++◌, Some, None, codes, decimal, Option, ◌==◌}
-use Rattle.plan.specs.declared.side.Side.{Side}
-use Rattle.plan.specs.declared.side.Side.TheVariants.{NorthSouth, EastWest}
-use Rattle.plan.specs.Boards.{first_board, last_board}
+use Rattle.std.specs.Prelude.{ℕ, zero, suc, List, [], ◌++◌, Some, None, codes, decimal, Option}
+use Rattle.plan.specs.Side.{side_name}
+use Rattle.plan.specs.Boards.{first_board, last_board, boards_text}
 use Rattle.plan.specs.Plan.{Plan}
 use Rattle.guide.specs.declared.place.Place.{Place}
 use Rattle.guide.specs.Places.{place_of}
 
-abbrev pub side_name : Side → List ℕ
-side_name NorthSouth = codes "North-South"
-side_name EastWest = codes "East-West"
-
 -- as `table 3, East-West against pair 8`
 abbrev pub place_text : Place → List ℕ
 place_text p = codes "table " ++ (decimal p.table ++ (codes ", " ++ (side_name p.side ++ (codes " against pair " ++ decimal p.opponents))))
-
--- as `board 7` or `boards 7 to 8`
-abbrev pub boards_text : ℕ → ℕ → List ℕ
-boards_text first last = cond (first == last) (codes "board " ++ decimal first) (codes "boards " ++ (decimal first ++ (codes " to " ++ decimal last)))
 
 -- a round of the evening, with so many boards to a set
 abbrev pub line_text : ℕ → Option Place → ℕ → List ℕ

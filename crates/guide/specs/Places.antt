@@ -1,5 +1,5 @@
 -- Where a pair plays by a plan.
-use Rattle.std.specs.Prelude.{◌≡◌, ℕ, zero, suc, cond, Some, None, Option, ◌==◌, ◌≢◌}
+use Rattle.std.specs.Prelude.{◌≡◌, ℕ, zero, suc, Some, None, Option, ◌==◌, ◌≢◌, if◌then◌else◌}
 use Rattle.plan.specs.declared.side.Side.{Side}
 use Rattle.plan.specs.declared.side.Side.TheVariants.{NorthSouth, EastWest}
 use Rattle.plan.specs.Plan.{Plan, Seat, sitter}
@@ -21,8 +21,8 @@ SitsOut m round pair = (table : ℕ) (s : Seat) (side : Side) → m.seat round t
 abbrev pub place_at : ℕ → ℕ → Option Seat → Option Place
 place_at table pair None = None
 place_at table pair (Some s) =
-    cond (pair == s.0) (Some (record { table = table; side = NorthSouth; opponents = s.1; set = s.2 }))
-    (cond (pair == s.1) (Some (record { table = table; side = EastWest; opponents = s.0; set = s.2 })) None)
+    if pair == s.0 then Some (record { table = table; side = NorthSouth; opponents = s.1; set = s.2 })
+    else (if pair == s.1 then Some (record { table = table; side = EastWest; opponents = s.0; set = s.2 }) else None)
 
 -- the first of two places that is one
 abbrev pub either : Option Place → Option Place → Option Place

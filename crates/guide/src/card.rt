@@ -5,7 +5,7 @@ ghost use Rattle.guide.specs.Cards.{card_text};
 
 use crate::line::CardLine;
 use crate::place::Place;
-use plan::{BoardsPerSet, Movement};
+use plan::{BoardsPerSet, Field, Movement};
 use std::fmt;
 
 /// The card of one pair, to be printed.
@@ -29,15 +29,23 @@ impl<'m, M: Movement> GuideCard<'m, M> {
             boards: self.boards,
         }
     }
+
+    // The number of the pair's field, and 0 where there is no such pair.
+    fn field(&self) -> u8
+        ensures { result ≡ (M.Movement.plan self.now.movement.now).field self.now.pair }
+    {
+        self.movement.field(self.pair).map_or(0, Field::number)
+    }
 }
 
 /// The pair and its field, then a line for each round.
 impl<'m, M: Movement> fmt::Display for GuideCard<'m, M> {
-    ghost output = { λ c. Some (card_text (M.Movement.plan c.movement.now) c.pair c.boards.boards) };
+    ghost output = { λ c. Some (card_text (M.Movement.plan c.movement.now) c.pair c.boards) };
 
     fn fmt<W: fmt::Write>(&self, f: &mut fmt::Formatter<W>) -> fmt::Result {
         let pair = self.pair;
-        writeln!(f, "Pair {pair}, field {}", self.movement.field(pair))?;
+        let field = self.field();
+        writeln!(f, "Pair {pair}, field {field}")?;
         for round in 1..=self.movement.rounds() {
             let line = self.line(round);
             write!(f, "{line}")?;

@@ -20,13 +20,7 @@ impl Place {
         ensures found { MatchOption result (SitsOut (M.Movement.plan movement.now) round pair) (Plays (M.Movement.plan movement.now) round pair) }
         ensures alone { MatchOption result Unit (λ p. (other : Place) → Plays (M.Movement.plan movement.now) round pair other → other ≡ p) }
     {
-        for table in 1..=movement.tables() {
-            let place = at_table(movement, round, table, pair);
-            if place.is_some() {
-                return place;
-            }
-        }
-        None
+        (1..=movement.tables()).find_map(|table| at_table(movement, round, table, pair))
     }
 }
 

@@ -1,13 +1,14 @@
 // The last rounds with the sides exchanged, so that all pairs can be ranked in one field.
-ghost use Rattle.std.specs.Prelude.{◌≡◌, IfOk, IfErr, Some, None};
+ghost use Rattle.std.specs.Prelude.{◌≡◌, IfOk, IfErr};
+ghost use Rattle.std.specs.Option.{option_map};
+ghost use Rattle.std.specs.Result.{result_err};
 ghost use Rattle.refusal.specs.Questions.{first_no};
 ghost use Rattle.plan.specs.Layers.{arrow_switched};
 ghost use Rattle.layer.specs.Ranges.{arrow_switch_range};
 ghost use Rattle.plan.proofs.Layers.{arrow_switched_lawful};
 
-use crate::refused::LayerRefused;
-use plan::{Movement, one_field};
-use refusal::Refusal;
+use crate::refused::{LayerRefused, accept};
+use plan::{Field, Movement, Sizes, one_field};
 
 /// A movement with North-South and East-West exchanged from round `from` on, and all pairs in field 1.
 #[derive(Drop)]
@@ -19,15 +20,12 @@ pub struct ArrowSwitch<M: Movement> {
 impl<M: Movement> ArrowSwitch<M> {
     /// Refused unless there is such a round, later than the first.
     pub fn new(below: M, from: u8) -> Result<ArrowSwitch<M>, LayerRefused<M>>
-        ensures made { IfOk result (λ m. (first_no (arrow_switch_range (M.Movement.plan below) from) ≡ None) × (m.below ≡ below) × (m.from ≡ from)) }
-        ensures refused { IfErr result (λ e. (first_no (arrow_switch_range (M.Movement.plan below) from) ≡ Some e.refusal) × (e.movement ≡ below)) }
+        ensures asked { option_map (λ e. e.refusal) (result_err result) ≡ first_no (arrow_switch_range (M.Movement.plan below) from) }
+        ensures made { IfOk result (λ m. (m.below ≡ below) × (m.from ≡ from)) }
+        ensures back { IfErr result (λ e. e.movement ≡ below) }
     {
-        if from < 2 || from > below.rounds() {
-            return Err(LayerRefused {
-                movement: below,
-                refusal: Refusal::LayerOutOfRange,
-            });
-        }
+        let in_range = (2..=below.rounds()).contains(&from);
+        let below = accept(below, in_range)?;
         Ok(ArrowSwitch { below, from })
     }
 }
@@ -37,23 +35,11 @@ impl<M: Movement> Movement for ArrowSwitch<M> {
 
     ghost lawful = { λ m. arrow_switched_lawful m.from (M.Movement.plan m.below) (M.Movement.lawful m.below) };
 
-    fn tables(&self) -> u8 {
-        self.below.tables()
+    fn sizes(&self) -> Sizes {
+        self.below.sizes()
     }
 
-    fn rounds(&self) -> u8 {
-        self.below.rounds()
-    }
-
-    fn sets(&self) -> u8 {
-        self.below.sets()
-    }
-
-    fn pairs(&self) -> u8 {
-        self.below.pairs()
-    }
-
-    fn field(&self, pair: u8) -> u8 {
+    fn field(&self, pair: u8) -> Option<Field> {
         one_field(self.below.pairs(), pair)
     }
 

@@ -1,13 +1,14 @@
 // A pair that does not come.
-ghost use Rattle.std.specs.Prelude.{◌≡◌, IfOk, IfErr, Some, None};
+ghost use Rattle.std.specs.Prelude.{◌≡◌, IfOk, IfErr};
+ghost use Rattle.std.specs.Option.{option_map};
+ghost use Rattle.std.specs.Result.{result_err};
 ghost use Rattle.refusal.specs.Questions.{first_no};
 ghost use Rattle.plan.specs.Layers.{without};
 ghost use Rattle.layer.specs.Ranges.{missing_pair_range};
 ghost use Rattle.plan.proofs.Layers.{without_lawful};
 
-use crate::refused::LayerRefused;
-use plan::{Movement, is_within};
-use refusal::Refusal;
+use crate::refused::{LayerRefused, accept};
+use plan::{Field, Movement, Sizes, is_within};
 
 /// A movement with each table empty at which `pair` would sit.
 #[derive(Drop)]
@@ -19,15 +20,12 @@ pub struct MissingPair<M: Movement> {
 impl<M: Movement> MissingPair<M> {
     /// Refused unless there is such a pair.
     pub fn new(below: M, pair: u8) -> Result<MissingPair<M>, LayerRefused<M>>
-        ensures made { IfOk result (λ m. (first_no (missing_pair_range (M.Movement.plan below) pair) ≡ None) × (m.below ≡ below) × (m.pair ≡ pair)) }
-        ensures refused { IfErr result (λ e. (first_no (missing_pair_range (M.Movement.plan below) pair) ≡ Some e.refusal) × (e.movement ≡ below)) }
+        ensures asked { option_map (λ e. e.refusal) (result_err result) ≡ first_no (missing_pair_range (M.Movement.plan below) pair) }
+        ensures made { IfOk result (λ m. (m.below ≡ below) × (m.pair ≡ pair)) }
+        ensures back { IfErr result (λ e. e.movement ≡ below) }
     {
-        if !is_within(below.pairs(), pair) {
-            return Err(LayerRefused {
-                movement: below,
-                refusal: Refusal::LayerOutOfRange,
-            });
-        }
+        let in_range = is_within(below.pairs(), pair);
+        let below = accept(below, in_range)?;
         Ok(MissingPair { below, pair })
     }
 }
@@ -37,23 +35,11 @@ impl<M: Movement> Movement for MissingPair<M> {
 
     ghost lawful = { λ m. without_lawful m.pair (M.Movement.plan m.below) (M.Movement.lawful m.below) };
 
-    fn tables(&self) -> u8 {
-        self.below.tables()
+    fn sizes(&self) -> Sizes {
+        self.below.sizes()
     }
 
-    fn rounds(&self) -> u8 {
-        self.below.rounds()
-    }
-
-    fn sets(&self) -> u8 {
-        self.below.sets()
-    }
-
-    fn pairs(&self) -> u8 {
-        self.below.pairs()
-    }
-
-    fn field(&self, pair: u8) -> u8 {
+    fn field(&self, pair: u8) -> Option<Field> {
         self.below.field(pair)
     }
 

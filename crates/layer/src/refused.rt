@@ -1,5 +1,9 @@
 // What comes back where a layer is refused.
-ghost use Rattle.std.specs.Prelude.{◌≡◌};
+ghost use Rattle.std.specs.Prelude.{◌≡◌, IfOk, IfErr, ◌∷◌, []};
+ghost use Rattle.std.specs.Option.{option_map};
+ghost use Rattle.std.specs.Result.{result_err};
+ghost use Rattle.refusal.specs.Questions.{first_no};
+ghost use Rattle.refusal.specs.declared.Refusal.TheVariants.{LayerOutOfRange};
 
 use refusal::Refusal;
 
@@ -17,4 +21,19 @@ impl<M: Drop> From<LayerRefused<M>> for Refusal {
     fn from(refused: LayerRefused<M>) -> Refusal {
         refused.refusal
     }
+}
+
+/// The movement again where the number of a layer is in range, and otherwise a refusal with it.
+pub(crate) fn accept<M>(movement: M, in_range: bool) -> Result<M, LayerRefused<M>>
+    ensures asked { option_map (λ e. e.refusal) (result_err result) ≡ first_no ((in_range, LayerOutOfRange) ∷ []) }
+    ensures made { IfOk result (λ m. m ≡ movement) }
+    ensures back { IfErr result (λ e. e.movement ≡ movement) }
+{
+    if !in_range {
+        return Err(LayerRefused {
+            movement,
+            refusal: Refusal::LayerOutOfRange,
+        });
+    }
+    Ok(movement)
 }

@@ -4,7 +4,7 @@ use Rattle.refusal.specs.declared.Refusal.{Refusal}
 use Rattle.refusal.specs.declared.Refusal.TheVariants.{TablesOutOfRange, RoundsOutOfRange}
 use Rattle.plan.specs.Plan.{within}
 
-abbrev sizes : Bool → Bool → List (Bool × Refusal)
+abbrev pub sizes : Bool → Bool → List (Bool × Refusal)
 sizes tables rounds = (tables, TablesOutOfRange) ∷ (rounds, RoundsOutOfRange) ∷ []
 
 abbrev pub mitchell_sizes : ℕ → ℕ → List (Bool × Refusal)

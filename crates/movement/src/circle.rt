@@ -1,35 +1,43 @@
 // Numbers around a circle of tables.
 ghost use Rattle.std.specs.Prelude.{◌≡◌, ◌+◌, ◌-◌, ◌%◌, ◌<◌, ◌≤◌, pos, ◌-ℤ◌};
+ghost use Rattle.plan.specs.Laws.{In};
 ghost use Rattle.plan.specs.Movements.{wrap};
 
-// The number from 1 to `circle` that differs from `v`, which is above 0, by a multiple of `circle`.
-fn wrap(circle: u8, v: u8) -> u8
-    requires some { 1 ≤ circle }
-    requires above { 1 ≤ v }
-    ensures value { result ≡ 1 + (v - 1) % circle }
-    ensures most { result ≤ circle }
-{
-    (v - 1) % circle + 1
+/// The numbers from 1 to `size`, in a circle.
+#[derive(Clone, Copy)]
+pub(crate) struct Circle {
+    pub(crate) size: u8,
+    ghost some: { 1 ≤ size },
+    ghost small: { size ≤ 16 },
 }
 
-/// The number `steps` after `start` on a circle of numbers from 1. A helper: the circle is small, and the start above 0.
-pub(crate) fn ahead(circle: u8, start: u8, steps: u8) -> u8
-    requires some { 1 ≤ circle }
-    requires above { 1 ≤ start }
-    requires small { start + steps ≤ 255 }
-    ensures value { result ≡ wrap circle (pos (start + steps)) }
-    ensures most { result ≤ circle }
-{
-    wrap(circle, start + steps)
-}
+impl Circle {
+    /// The number `steps` after `start`, by less than a whole turn. A helper: the start is on the circle.
+    pub(crate) fn ahead(self, start: u8, steps: u8) -> u8
+        requires on { In self.size start }
+        requires less { steps < self.size }
+        ensures value { result ≡ wrap self.size (pos (start + steps)) }
+        ensures most { result ≤ self.size }
+    {
+        self.wrap(start + steps)
+    }
 
-/// The number `steps` before `start`, by less than a whole turn.
-pub(crate) fn back(circle: u8, start: u8, steps: u8) -> u8
-    requires less { steps < circle }
-    requires above { 1 ≤ start }
-    requires small { start + circle ≤ 255 }
-    ensures value { result ≡ wrap circle (pos start -ℤ pos steps) }
-    ensures most { result ≤ circle }
-{
-    wrap(circle, start + (circle - steps))
+    /// The number `steps` before `start`, by less than a whole turn. A helper: the start is on the circle.
+    pub(crate) fn back(self, start: u8, steps: u8) -> u8
+        requires on { In self.size start }
+        requires less { steps < self.size }
+        ensures value { result ≡ wrap self.size (pos start -ℤ pos steps) }
+        ensures most { result ≤ self.size }
+    {
+        self.wrap(start + (self.size - steps))
+    }
+
+    // The number on the circle that differs from `v`, which is above 0, by a multiple of the size.
+    fn wrap(self, v: u8) -> u8
+        requires { 1 ≤ v }
+        ensures value { result ≡ 1 + (v - 1) % self.size }
+        ensures most { result ≤ self.size }
+    {
+        (v - 1) % self.size + 1
+    }
 }

@@ -1,12 +1,15 @@
 // The Howell movement for four tables.
-ghost use Rattle.std.specs.Prelude.{◌≡◌, ◌≤◌, IfOk, IfErr, Some, None};
+ghost use Rattle.std.specs.Prelude.{◌≡◌, ◌≤◌, IfOk};
+ghost use Rattle.std.specs.Result.{result_err};
 ghost use Rattle.refusal.specs.Questions.{first_no};
+ghost use Rattle.plan.specs.Laws.{In};
 ghost use Rattle.plan.specs.Movements.{after, howell};
 ghost use Rattle.movement.specs.Sizes.{howell_sizes};
 ghost use Rattle.plan.proofs.Howells.{howell_lawful};
 
-use crate::circle::ahead;
-use plan::{Movement, is_within, one_field};
+use crate::circle::Circle;
+use crate::sizes;
+use plan::{Field, Movement, Sizes, is_within, one_field};
 use refusal::Refusal;
 
 const TABLES: u8 = 4;
@@ -26,15 +29,10 @@ pub struct Howell {
 
 impl Howell {
     pub fn new(tables: u8, rounds: u8) -> Result<Howell, Refusal>
-        ensures made { IfOk result (λ m. (first_no (howell_sizes tables rounds) ≡ None) × (m.rounds ≡ rounds)) }
-        ensures refused { IfErr result (λ e. first_no (howell_sizes tables rounds) ≡ Some e) }
+        ensures asked { result_err result ≡ first_no (howell_sizes tables rounds) }
+        ensures made { IfOk result (λ m. m.rounds ≡ rounds) }
     {
-        if tables != TABLES {
-            return Err(Refusal::TablesOutOfRange);
-        }
-        if !is_within(CIRCLE, rounds) {
-            return Err(Refusal::RoundsOutOfRange);
-        }
+        sizes::check(tables == TABLES, is_within(CIRCLE, rounds))?;
         Ok(Howell { rounds })
     }
 }
@@ -44,23 +42,16 @@ impl Movement for Howell {
 
     ghost lawful = { λ m. howell_lawful m.rounds (m.least_rounds, m.most_rounds) };
 
-    fn tables(&self) -> u8 {
-        TABLES
+    fn sizes(&self) -> Sizes {
+        Sizes {
+            tables: TABLES,
+            rounds: self.rounds,
+            sets: CIRCLE,
+            pairs: PAIRS,
+        }
     }
 
-    fn rounds(&self) -> u8 {
-        self.rounds
-    }
-
-    fn sets(&self) -> u8 {
-        CIRCLE
-    }
-
-    fn pairs(&self) -> u8 {
-        PAIRS
-    }
-
-    fn field(&self, pair: u8) -> u8 {
+    fn field(&self, pair: u8) -> Option<Field> {
         one_field(PAIRS, pair)
     }
 
@@ -80,10 +71,9 @@ impl Movement for Howell {
 
 // The number so many steps after that of the round, around the circle.
 fn after(round: u8, steps: u8) -> u8
-    requires first { 1 ≤ round }
-    requires last { round ≤ 7 }
+    requires on { In 7 round }
     requires few { steps ≤ 6 }
     ensures { result ≡ after round steps }
 {
-    ahead(CIRCLE, round, steps)
+    Circle { size: CIRCLE }.ahead(round, steps)
 }

@@ -5,9 +5,13 @@
 mod circle;
 mod howell;
 mod mitchell;
-mod rotation;
+mod rotating;
+mod sizes;
 mod skip_mitchell;
+mod walk;
 
 pub use howell::Howell;
-pub use mitchell::Mitchell;
-pub use skip_mitchell::SkipMitchell;
+pub use mitchell::{Mitchell, Straight};
+pub use rotating::Rotating;
+pub use skip_mitchell::{SkipMitchell, Skipping};
+pub use walk::Walk;

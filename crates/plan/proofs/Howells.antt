@@ -1,6 +1,5 @@
 -- The Howell keeps the laws: one test over every two of its 28 seats, which the checker computes.
-use Rattle.std.proofs.Common.{◌≡◌, ℕ, zero, suc, Bool, true, not, ◌&&◌, ◌||◌, eqb, Some, sym, refl, subst, inl, inr, arith}
-use Rattle.std.proofs.lemmas.Bool.{and_parts, cases_eq}
+use Rattle.std.proofs.Common.{◌≡◌, ℕ, zero, suc, Bool, true, not, ◌&&◌, ◌||◌, ◌==◌, Some, refl, subst, arith}
 use Rattle.std.proofs.lemmas.Bool.Decides.{nat_tests}
 use Rattle.plan.specs.declared.side.Side.{Side}
 use Rattle.plan.specs.declared.side.Side.TheVariants.{NorthSouth, EastWest}
@@ -8,7 +7,6 @@ use Rattle.plan.specs.Plan.{Seat, within, sitter, opposite, set_of}
 use Rattle.plan.specs.Laws.{Laws, In}
 use Rattle.plan.specs.Movements.{howell, howell_seat, wrap}
 use Rattle.plan.proofs.Seats.{seated_at, seated_outside}
-use Rattle.plan.proofs.Fields.{one_field_of, one_field_outside}
 
 -- the test of each number from 1 to n
 abbrev each : ℕ → (ℕ → Bool) → Bool
@@ -17,12 +15,7 @@ each (suc n) test = test (suc n) && each n test
 
 each_at : (n : ℕ) (test : ℕ → Bool) → each n test ≡ true → (k : ℕ) → In n k → test k ≡ true
 each_at zero test h k range = absurd (omega arith)
-each_at (suc n) test h k range =
-    let parts = and_parts (test (suc n)) (each n test) h in
-    elim (cases_eq k (suc n)) [
-      | inl e ↦ subst (λ x. test x ≡ true) (sym e) parts.0
-      | inr d ↦ each_at n test parts.1 k (range.0, omega arith)
-    ]
+each_at (suc n) test h k range = grind (arith, nat_tests, each_at n test)
 
 -- the test of each table in each round
 abbrev each_seat : (ℕ → ℕ → Bool) → Bool
@@ -37,14 +30,14 @@ then a b = not a || b
 
 -- numbers in range, two pairs
 abbrev sound : Seat → Bool
-sound s = within 8 s.0 && (within 8 s.1 && (within 7 s.2 && not (eqb s.0 s.1)))
+sound s = within 8 s.0 && (within 8 s.1 && (within 7 s.2 && not (s.0 == s.1)))
 
 -- what two seats may have in common
 abbrev apart : (r t r' t' : ℕ) → Seat → Seat → Side → Side → Bool
 apart r t r' t' s s' side side' =
-    then (eqb r r' && eqb (set_of s) (set_of s')) (eqb t t')
-    && then (eqb (sitter side s) (sitter side' s'))
-    (then (eqb r r') (eqb t t') && (then (eqb (set_of s) (set_of s')) (eqb r r') && then (eqb (sitter (opposite side) s) (sitter (opposite side') s')) (eqb r r')))
+    then (r == r' && set_of s == set_of s') (t == t')
+    && then (sitter side s == sitter side' s')
+    (then (r == r') (t == t') && (then (set_of s == set_of s') (r == r') && then (sitter (opposite side) s == sitter (opposite side') s') (r == r')))
 
 sound_seat : ℕ → ℕ → Bool
 sound_seat r t = sound (howell_seat r t)
@@ -62,14 +55,6 @@ all_apart NorthSouth NorthSouth = refl
 all_apart NorthSouth EastWest = refl
 all_apart EastWest NorthSouth = refl
 all_apart EastWest EastWest = refl
-
-pair_known : (s : Seat) (side : Side) → sound s ≡ true → In 8 (sitter side s)
-pair_known s NorthSouth h = grind (arith, nat_tests)
-pair_known s EastWest h = grind (arith, nat_tests)
-
-two_pairs_at : (s : Seat) (side : Side) → sound s ≡ true → sitter side s ≡ sitter (opposite side) s → ⊥
-two_pairs_at s NorthSouth h e = grind (arith, nat_tests)
-two_pairs_at s EastWest h e = grind (arith, nat_tests)
 
 -- what the test says of an occupied table, and of two
 module _ (rounds : ℕ) (range : In 7 rounds) where
@@ -100,12 +85,12 @@ module _ (rounds : ℕ) (range : In 7 rounds) where
     rounds_in_range = (range.0, omega arith);
     sets_in_range = (omega arith, omega arith);
     pairs_in_range = (omega arith, omega arith);
-    field_of_pair = one_field_of 8;
-    no_field_outside = one_field_outside 8;
+    field_of_pair = λ p h. grind (arith, nat_tests);
+    no_field_outside = λ p h. grind (arith, nat_tests);
     empty_outside = seated_outside rounds 4 howell_seat;
-    pair_in_range = λ r t s side e. pair_known s side (sound_at r t s (at r t s e));
-    set_in_range = λ r t s e. let h = sound_at r t s (at r t s e) in grind (arith, nat_tests);
-    two_pairs = λ r t s side e. two_pairs_at s side (sound_at r t s (at r t s e));
+    pair_in_range = λ r t s side e. let h = sound_at r t s (at r t s e) in (grind (arith, nat_tests), grind (arith, nat_tests));
+    set_in_range = λ r t s e. let h = sound_at r t s (at r t s e) in (grind (arith, nat_tests), grind (arith, nat_tests));
+    two_pairs = λ r t s side e same. let h = sound_at r t s (at r t s e) in grind (arith, nat_tests);
     pair_at_one_table = λ r t t' s s' side side' e f same. let h = apart_at r t r t' s s' side side' (at r t s e) (at r t' s' f) in grind (arith, nat_tests);
     set_at_one_table = λ r t t' s s' e f same. let h = apart_at r t r t' s s' NorthSouth NorthSouth (at r t s e) (at r t' s' f) in grind (arith, nat_tests);
     set_met_once = λ r t r' t' s s' side side' e f same set. let h = apart_at r t r' t' s s' side side' (at r t s e) (at r' t' s' f) in grind (arith, nat_tests);

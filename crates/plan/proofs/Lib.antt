@@ -1,10 +1,8 @@
 pub mod Wrapping
 mod Seats
-mod Fields
-mod Rotating
-pub mod Mitchells
+pub mod Rotating
 pub mod Howells
 mod Over
 pub mod Layers
 pub mod Occupied
-mod Agreement
+pub mod Numbers

@@ -1,25 +1,12 @@
 -- The argument that Mitchell and skip Mitchell share, whatever the tables that East-West have gone by each round.
-use Rattle.std.proofs.Common.{◌≡◌, ℕ, ◌+◌, ◌-◌, ◌*◌, ◌<◌, ◌≤◌, pos, ◌-ℤ◌, Some, sym, ap, subst, arith}
-use Rattle.plan.specs.declared.side.Side.{Side}
-use Rattle.plan.specs.declared.side.Side.TheVariants.{NorthSouth, EastWest}
-use Rattle.plan.specs.Plan.{Seat, sitter, opposite, set_of}
+use Rattle.std.proofs.Common.{◌≡◌, ℕ, ◌+◌, ◌-◌, pos, ◌-ℤ◌, Some, sym, ap, subst, arith}
+use Rattle.plan.specs.Plan.{Seat}
 use Rattle.plan.specs.Laws.{Laws, In}
 use Rattle.plan.specs.Movements.{rotating, rotating_seat, wrap}
+use Rattle.plan.specs.Turns.{Turns}
 use Rattle.std.proofs.lemmas.Bool.Decides.{nat_tests}
 use Rattle.plan.proofs.Seats.{seated_at, seated_outside}
 use Rattle.plan.proofs.Wrapping.{Around, wrap_around, wrap_back}
-
--- how far East-West have gone by each round
-pub record Turns (tables rounds : ℕ) (gone : ℕ → ℕ) : Type 0 where
-  pub tables_most : tables ≤ 16
-  pub rounds_in_range : In tables rounds
-  -- less than a whole turn
-  pub less : (r : ℕ) → In rounds r → gone r < tables
-  -- never twice as far
-  pub further : (r r' : ℕ) → In rounds r → In rounds r' → gone r ≡ gone r' → r ≡ r'
-  -- towards the sets, which come the other way, never twice as far, even by a whole turn
-  pub closer : (r r' : ℕ) → In rounds r → In rounds r' → r + gone r ≡ r' + gone r' → r ≡ r'
-  pub no_turn : (r r' : ℕ) → In rounds r → In rounds r' → r + gone r ≡ r' + gone r' + tables → ⊥
 
 module _ (tables rounds : ℕ) (gone : ℕ → ℕ) (turns : Turns tables rounds gone) where
   -- what is known of an occupied table
@@ -51,49 +38,6 @@ module _ (tables rounds : ℕ) (gone : ℕ → ℕ) (turns : Turns tables rounds
         set_at = subst (λ (x : Seat). Around tables (t + r - 1) x.2) seat set;
       }
 
-  one_table : (r t t' : ℕ) (s s' : Seat) (side side' : Side) → At r t s → At r t' s' → sitter side s ≡ sitter side' s' → t ≡ t'
-  one_table r t t' s s' NorthSouth NorthSouth a b e = omega arith
-  one_table r t t' s s' NorthSouth EastWest a b e = absurd (omega arith)
-  one_table r t t' s s' EastWest NorthSouth a b e = absurd (omega arith)
-  one_table r t t' s s' EastWest EastWest a b e = let less = turns.less r a.round in grind arith
-
-  set_table : (r t t' : ℕ) (s s' : Seat) → At r t s → At r t' s' → set_of s ≡ set_of s' → t ≡ t'
-  set_table r t t' s s' a b e = let small = turns.rounds_in_range in grind arith
-
-  set_once : (r t r' t' : ℕ) (s s' : Seat) (side side' : Side) → At r t s → At r' t' s' → sitter side s ≡ sitter side' s' → set_of s ≡ set_of s' → r ≡ r'
-  set_once r t r' t' s s' NorthSouth NorthSouth a b e z = let small = turns.rounds_in_range in grind arith
-  set_once r t r' t' s s' NorthSouth EastWest a b e z = absurd (omega arith)
-  set_once r t r' t' s s' EastWest NorthSouth a b e z = absurd (omega arith)
-  set_once r t r' t' s s' EastWest EastWest a b e z =
-      let small = turns.rounds_in_range in
-      let less = turns.less r a.round in
-      let less' = turns.less r' b.round in
-      let same = turns.closer r r' a.round b.round in
-      let ahead = turns.no_turn r r' a.round b.round in
-      let behind = turns.no_turn r' r b.round a.round in
-      grind arith
-
-  pairs_once : (r t r' t' : ℕ) (s s' : Seat) → At r t s → At r' t' s' → s.0 ≡ s'.0 → s.1 ≡ s'.1 → r ≡ r'
-  pairs_once r t r' t' s s' a b e f =
-      let less = turns.less r a.round in
-      let less' = turns.less r' b.round in
-      let same = turns.further r r' a.round b.round in
-      grind arith
-
-  guest_apart : (r t : ℕ) (s : Seat) (side : Side) → At r t s → sitter side s ≡ sitter (opposite side) s → ⊥
-  guest_apart r t s NorthSouth a e = omega arith
-  guest_apart r t s EastWest a e = omega arith
-
-  pair_known : (r t : ℕ) (s : Seat) (side : Side) → At r t s → In (2 * tables) (sitter side s)
-  pair_known r t s NorthSouth a = (omega arith, omega arith)
-  pair_known r t s EastWest a = (omega arith, omega arith)
-
-  either_order : (r t r' t' : ℕ) (s s' : Seat) (side side' : Side) → At r t s → At r' t' s' → sitter side s ≡ sitter side' s' → sitter (opposite side) s ≡ sitter (opposite side') s' → r ≡ r'
-  either_order r t r' t' s s' NorthSouth NorthSouth a b e f = pairs_once r t r' t' s s' a b e f
-  either_order r t r' t' s s' NorthSouth EastWest a b e f = absurd (omega arith)
-  either_order r t r' t' s s' EastWest NorthSouth a b e f = absurd (omega arith)
-  either_order r t r' t' s s' EastWest EastWest a b e f = pairs_once r t r' t' s s' a b f e
-
   pub rotating_lawful : Laws (rotating tables rounds gone)
   rotating_lawful =
       let small = turns.tables_most in
@@ -106,11 +50,31 @@ module _ (tables rounds : ℕ) (gone : ℕ → ℕ) (turns : Turns tables rounds
         field_of_pair = λ p h. grind (arith, nat_tests);
         no_field_outside = λ p h. grind (arith, nat_tests);
         empty_outside = seated_outside rounds tables (rotating_seat tables gone);
-        pair_in_range = λ r t s side e. pair_known r t s side (at r t s e);
+        pair_in_range = λ r t s side e. let a = at r t s e in (grind arith, grind arith);
         set_in_range = λ r t s e. (at r t s e).set_at.0;
-        two_pairs = λ r t s side e. guest_apart r t s side (at r t s e);
-        pair_at_one_table = λ r t t' s s' side side' e f. one_table r t t' s s' side side' (at r t s e) (at r t' s' f);
-        set_at_one_table = λ r t t' s s' e f. set_table r t t' s s' (at r t s e) (at r t' s' f);
-        set_met_once = λ r t r' t' s s' side side' e f. set_once r t r' t' s s' side side' (at r t s e) (at r' t' s' f);
-        pairs_met_once = λ r t r' t' s s' side side' e f. either_order r t r' t' s s' side side' (at r t s e) (at r' t' s' f);
+        two_pairs = λ r t s side e same. let a = at r t s e in grind arith;
+        pair_at_one_table = λ r t t' s s' side side' e f same.
+            let a = at r t s e in
+            let b = at r t' s' f in
+            grind (arith, turns.less r a.round);
+        set_at_one_table = λ r t t' s s' e f same.
+            let a = at r t s e in
+            let b = at r t' s' f in
+            grind arith;
+        set_met_once = λ r t r' t' s s' side side' e f same set.
+            let a = at r t s e in
+            let b = at r' t' s' f in
+            let less = turns.less r a.round in
+            let less' = turns.less r' b.round in
+            let closer = turns.closer r r' a.round b.round in
+            let ahead = turns.no_turn r r' a.round b.round in
+            let behind = turns.no_turn r' r b.round a.round in
+            grind arith;
+        pairs_met_once = λ r t r' t' s s' side side' e f same others.
+            let a = at r t s e in
+            let b = at r' t' s' f in
+            let less = turns.less r a.round in
+            let less' = turns.less r' b.round in
+            let further = turns.further r r' a.round b.round in
+            grind arith;
       }

@@ -1,11 +1,11 @@
 -- What a layer makes of the plan below it.
-use Rattle.std.specs.Prelude.{ℕ, cond, ◌||◌, Some, None, Option, ◌==◌, nat_le}
+use Rattle.std.specs.Prelude.{ℕ, ◌||◌, Some, None, Option, ◌==◌, nat_le, if◌then◌else◌}
 use Rattle.plan.specs.Plan.{Plan, Seat}
 use Rattle.plan.specs.Movements.{one_field}
 
 abbrev pub emptied : ℕ → Option Seat → Option Seat
 emptied p None = None
-emptied p (Some s) = cond (p == s.0 || p == s.1) None (Some s)
+emptied p (Some s) = if p == s.0 || p == s.1 then None else Some s
 
 -- each table where pair p would sit is empty
 abbrev pub without : ℕ → Plan → Plan
@@ -30,5 +30,5 @@ arrow_switched k m = record {
   sets = m.sets;
   pairs = m.pairs;
   field = one_field m.pairs;
-  seat = λ r t. cond (nat_le k r) (exchanged (m.seat r t)) (m.seat r t);
+  seat = λ r t. if nat_le k r then exchanged (m.seat r t) else m.seat r t;
 }

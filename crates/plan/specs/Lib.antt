@@ -1,6 +1,9 @@
 pub mod Plan
+pub mod Side
+pub mod Field
 pub mod Laws
 pub mod Movements
+pub mod Turns
 pub mod Layers
 pub mod Boards
 pub mod Agreement

@@ -1,5 +1,5 @@
 -- The plans of the three movements, as functions of their tables and rounds.
-use Rattle.std.specs.Prelude.{ℕ, ◌+◌, ◌-◌, ◌*◌, ◌/◌, cond, ◌&&◌, ℤ, pos, ◌-ℤ◌, Some, None, Option, ◌==◌, nat_le, unsigned_abs}
+use Rattle.std.specs.Prelude.{ℕ, ◌+◌, ◌-◌, ◌*◌, ◌/◌, ◌&&◌, ℤ, pos, ◌-ℤ◌, Some, None, Option, ◌==◌, nat_le, unsigned_abs, if◌then◌else◌}
 use Rattle.std.specs.Int.{int_rem_euclid}
 use Rattle.plan.specs.Plan.{Plan, Seat, within}
 
@@ -9,14 +9,14 @@ wrap n v = 1 + unsigned_abs (int_rem_euclid (v -ℤ pos 1) (pos n))
 
 -- a seat at each table in each round, and none elsewhere
 abbrev pub seated : ℕ → ℕ → (ℕ → ℕ → Seat) → ℕ → ℕ → Option Seat
-seated rounds tables who r t = cond (within rounds r && within tables t) (Some (who r t)) None
+seated rounds tables who r t = if within rounds r && within tables t then Some (who r t) else None
 
 abbrev pub one_field : ℕ → ℕ → ℕ
-one_field pairs p = cond (within pairs p) 1 0
+one_field pairs p = if within pairs p then 1 else 0
 
 -- the first half of the pairs in field 1, the second in field 2
 abbrev pub two_fields : ℕ → ℕ → ℕ
-two_fields half p = cond (within half p) 1 (cond (within (2 * half) p) 2 0)
+two_fields half p = if within half p then 1 else (if within (2 * half) p then 2 else 0)
 
 -- North-South sit still, the sets go down one table after each round, and by round r the East-West pairs have gone up
 -- `gone r` tables.
@@ -38,7 +38,7 @@ mitchell tables rounds = rotating tables rounds (λ r. r - 1)
 
 -- after round T / 2 East-West skip a table
 abbrev pub skip_mitchell : ℕ → ℕ → Plan
-skip_mitchell tables rounds = rotating tables rounds (λ r. cond (nat_le r (tables / 2)) (r - 1) r)
+skip_mitchell tables rounds = rotating tables rounds (λ r. if nat_le r (tables / 2) then r - 1 else r)
 
 -- k more than the round, around 1 to 7
 abbrev pub after : ℕ → ℕ → ℕ
@@ -47,9 +47,9 @@ after r k = wrap 7 (pos (r + k))
 -- round r of the Howell, table by table
 abbrev pub howell_seat : ℕ → ℕ → Seat
 howell_seat r t =
-    cond (t == 1) (8, after r 0, after r 0)
-    (cond (t == 2) (after r 2, after r 3, after r 5)
-    (cond (t == 3) (after r 4, after r 6, after r 3) (after r 1, after r 5, after r 6)))
+    if t == 1 then (8, after r 0, after r 0)
+    else (if t == 2 then (after r 2, after r 3, after r 5)
+    else (if t == 3 then (after r 4, after r 6, after r 3) else (after r 1, after r 5, after r 6)))
 
 abbrev pub howell : ℕ → Plan
 howell rounds = record {

@@ -1,42 +1,81 @@
 // Sets of boards.
-ghost use Rattle.std.specs.Prelude.{◌≡◌, ◌≤◌, IfOk, IfErr, Some, None};
+ghost use Rattle.std.specs.Prelude.{◌≡◌, ℕ, ◌≤◌, IfOk, Some};
+ghost use Rattle.std.specs.Result.{result_err};
 ghost use Rattle.refusal.specs.Questions.{first_no};
-ghost use Rattle.plan.specs.Boards.{first_board, last_board, boards_range};
+ghost use Rattle.plan.specs.Boards.{first_board, last_board, boards_range, boards_text};
 
 use crate::range::is_within;
 use refusal::Refusal;
+use std::fmt;
+use std::marker::Model;
 
 /// How many boards a set holds: 1 to 4.
 #[derive(Clone, Copy, PartialEq, Eq, Debug)]
 pub struct BoardsPerSet {
     boards: u8,
-    ghost least: { 1 ≤ boards },
-    ghost most: { boards ≤ 4 },
 }
 
-impl BoardsPerSet {
-    pub fn new(boards: u8) -> Result<BoardsPerSet, Refusal>
-        ensures made { IfOk result (λ b. (first_no (boards_range boards) ≡ None) × (b.boards ≡ boards)) }
-        ensures refused { IfErr result (λ e. first_no (boards_range boards) ≡ Some e) }
-    {
+impl Model for BoardsPerSet {
+    ghost Value = { ℕ };
+
+    ghost view = { λ b. b.boards };
+
+    ghost invariant = { λ b. (1 ≤ b.boards) × (b.boards ≤ 4) };
+
+    ghost inverse = { λ n. record { boards = n } };
+}
+
+impl TryFrom<u8> for BoardsPerSet {
+    type Error = Refusal;
+
+    ghost try_from_gives = { λ boards r. (result_err r ≡ first_no (boards_range boards)) × IfOk r (λ b. b ≡ boards) };
+
+    fn try_from(boards: u8) -> Result<BoardsPerSet, Refusal> {
         if !is_within(4, boards) {
             return Err(Refusal::BoardsPerSetOutOfRange);
         }
         Ok(BoardsPerSet { boards })
     }
+}
 
+impl BoardsPerSet {
     pub fn count(self) -> u8
-        ensures { result ≡ self.boards }
+        ensures { result ≡ self }
     {
         self.boards
     }
 
-    /// The lowest and the highest board of a set. Sets are numbered from 1; there are no boards in set 0.
-    pub fn of_set(self, set: u8) -> (u16, u16)
-        ensures { result ≡ (first_board self.boards set, last_board self.boards set) }
+    /// The boards of a set. Sets are numbered from 1; there are no boards in set 0.
+    pub fn of_set(self, set: u8) -> Boards
+        ensures first { result.first ≡ first_board self set }
+        ensures last { result.last ≡ last_board self set }
     {
         let boards = u16::from(self.count());
         let before = u16::from(set.saturating_sub(1)) * boards;
-        (before + 1, u16::from(set) * boards)
+        Boards {
+            first: before + 1,
+            last: u16::from(set) * boards,
+        }
+    }
+}
+
+/// The boards of one set, from the lowest to the highest.
+#[derive(Clone, Copy, PartialEq, Eq, Debug)]
+pub struct Boards {
+    pub first: u16,
+    pub last: u16,
+}
+
+/// As `board 7` or `boards 7 to 8`.
+impl fmt::Display for Boards {
+    ghost output = { λ b. Some (boards_text b.first b.last) };
+
+    fn fmt<W: fmt::Write>(&self, f: &mut fmt::Formatter<W>) -> fmt::Result {
+        let (first, last) = (self.first, self.last);
+        if first == last {
+            write!(f, "board {first}")
+        } else {
+            write!(f, "boards {first} to {last}")
+        }
     }
 }

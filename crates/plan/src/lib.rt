@@ -4,12 +4,16 @@
 
 mod boards;
 mod equal;
+mod field;
 mod movement;
 mod range;
 mod side;
+mod sizes;
 
-pub use boards::BoardsPerSet;
+pub use boards::{Boards, BoardsPerSet};
 pub use equal::are_equal;
+pub use field::Field;
 pub use movement::Movement;
 pub use range::{is_within, one_field};
 pub use side::Side;
+pub use sizes::Sizes;

@@ -1,10 +1,10 @@
-use Rattle.std.proofs.Common.{refl, arith, below_more}
+use Rattle.std.proofs.Common.{rules}
+use Rattle.plan.specs.Agreement.{SameRound}
+use Rattle.plan.proofs.Numbers.{all_numbers}
 use Rattle.plan.proofs.equal.same_seats.Goals as goal
 
-pub loop-round-preserved : goal.loop-round-preserved
-loop-round-preserved g c = below_more _ _ c.loop-round.invariant (λ low. c.same_round.ensures.0 c.if-not-same_round.false)
-
-pub returns-else-not-same_round : goal.returns-else-not-same_round
-returns-else-not-same_round g c =
-    let seen = below_more _ _ c.loop-round.invariant (λ low. c.same_round.ensures.0 c.if-not-same_round.false) in
-    (λ _ r range. seen r (omega arith) range.0, λ _. refl)
+pub returns : goal.returns
+returns g c =
+    let m = g.A.Movement.plan c.args.a.now in
+    let n = g.B.Movement.plan c.args.b.now in
+    all_numbers _ _ m.rounds _ (record { start = cc; end = cc; exhausted = cc }) (SameRound m n) c.all.result c.all.ensures.runs (λ a r f' k. search rules) (λ k h. search rules) (λ k h e. search rules)

@@ -1,4 +1,4 @@
-use Rattle.std.proofs.Common.{◌≡◌, ◌+◌, ◌-◌, true, refl, subst, arith}
+use Rattle.std.proofs.Common.{◌≡◌, true, refl, subst, arith, rules}
 use Rattle.std.specs.Fmt.{HasWritten}
 use Rattle.std.proofs.Output.{has_written_append}
 use Rattle.guide.specs.Cards.{heading, lines_text}
@@ -9,22 +9,20 @@ pub loop-round-preserved : goal.loop-round-preserved
 loop-round-preserved g c plain =
     let card = c.args.self.now in
     let m = g.M.Movement.plan card.movement.now in
-    let r = c.loop-round.round in
+    let l = c.line-line in
     let before = c.loop-round.invariant plain in
     let line = c.in_ok-write.ensures.writes before.plain (refl {a = true}) in
-    let lines = next_line g.W.Write.write_str_gives m card.pair r card.boards c.line-line.result c.writeln.new.self c.loop-round.f c.write.new.self c.loop-round.auto.round c.line-line.ensures.round c.line-line.ensures.place c.line-line.ensures.boards before line in
-    let same : r ≡ r + 1 - 1 = omega arith in
-    subst (λ k. HasWritten g.W.Write.write_str_gives c.writeln.new.self (lines_text m card.pair card.boards.boards k) c.write.new.self) same lines
+    let lines = next_line g.W.Write.write_str_gives m card.pair card.boards c.loop-round.round l.result c.writeln.new.self c.loop-round.f c.write.new.self c.loop-round.auto.round l.ensures.round l.ensures.place l.ensures.boards before line in
+    search rules
 
 pub returns-in_ok-write-clause-writes : goal.returns-in_ok-write-clause-writes
 returns-in_ok-write-clause-writes g c plain ok =
     let card = c.args.self.now in
     let m = g.M.Movement.plan card.movement.now in
-    let r = c.loop-round.round in
-    let head = subst (λ field. HasWritten g.W.Write.write_str_gives c.args.f.now (heading card.pair field) c.writeln.new.self) c.field.ensures (c.in_ok-writeln.ensures.writes plain ok) in
+    let l = c.line-line in
+    let head = subst (λ field. HasWritten g.W.Write.write_str_gives c.args.f.now (heading card.pair field) c.writeln.new.self) c.field-field.ensures (c.in_ok-writeln.ensures.writes plain ok) in
     let before = c.loop-round.invariant head.plain in
     let line = c.in_ok-write.ensures.writes before.plain (refl {a = true}) in
-    let lines = next_line g.W.Write.write_str_gives m card.pair r card.boards c.line-line.result c.writeln.new.self c.loop-round.f c.write.new.self c.loop-round.auto.round c.line-line.ensures.round c.line-line.ensures.place c.line-line.ensures.boards before line in
-    let last : r ≡ m.rounds = omega arith in
-    has_written_append g.W.Write.write_str_gives c.args.f.now (heading card.pair (m.field card.pair)) c.writeln.new.self (lines_text m card.pair card.boards.boards m.rounds) c.write.new.self
-    head (subst (λ k. HasWritten g.W.Write.write_str_gives c.writeln.new.self (lines_text m card.pair card.boards.boards k) c.write.new.self) last lines)
+    let lines = next_line g.W.Write.write_str_gives m card.pair card.boards c.loop-round.round l.result c.writeln.new.self c.loop-round.f c.write.new.self c.loop-round.auto.round l.ensures.round l.ensures.place l.ensures.boards before line in
+    let last : c.loop-round.round ≡ m.rounds = omega arith in
+    has_written_append g.W.Write.write_str_gives c.args.f.now (heading card.pair (m.field card.pair)) c.writeln.new.self (lines_text m card.pair card.boards m.rounds) c.write.new.self head (search rules)
