@@ -1,4 +1,4 @@
-ghost use Rattle.std.specs.Prelude.{◌≡◌, ◌≤◌, IfOk, IfErr};
+ghost use Rattle.std.specs.Prelude.{◌≡◌, ◌≤◌, MatchResult};
 ghost use Rattle.refusal.specs.declared.Refusal.TheVariants.{ReturnOutOfRange};
 
 use refusal::Refusal;
@@ -10,11 +10,15 @@ pub struct Group {
     ghost most: { number ≤ 3 },
 }
 
-impl Group {
-    pub fn new(number: u8) -> Result<Group, Refusal>
-        ensures made { IfOk result (λ g. g.number ≡ number) }
-        ensures refused { IfErr result (λ e. (e ≡ ReturnOutOfRange) × (number ≤ 3 → ⊥)) }
-    {
+/// Refused unless the number is at most 3.
+impl TryFrom<u8> for Group {
+    type Error = Refusal;
+
+    ghost try_from_gives = { λ number result. MatchResult result
+        (λ group. group.number ≡ number)
+        (λ e. (e ≡ ReturnOutOfRange) × (number ≤ 3 → ⊥)) };
+
+    fn try_from(number: u8) -> Result<Group, Refusal> {
         if number > 3 {
             return Err(Refusal::ReturnOutOfRange);
         }

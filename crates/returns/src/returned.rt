@@ -41,7 +41,7 @@ impl Return {
         ensures refused { IfErr result (λ e. (e ≡ ReturnOutOfRange) × (InRange level tricks group → ⊥)) }
     {
         let contract = Contract::new(level, denomination, doubling, declarer, tricks)?;
-        let group = Group::new(group)?;
+        let group = Group::try_from(group)?;
         Ok(Return::Scored { contract, group })
     }
 
@@ -50,7 +50,7 @@ impl Return {
         ensures made { IfOk result (λ t. PassedFrom group t) }
         ensures refused { IfErr result (λ e. (e ≡ ReturnOutOfRange) × (GroupRange group → ⊥)) }
     {
-        let group = Group::new(group)?;
+        let group = Group::try_from(group)?;
         Ok(Return::Passed { group })
     }
 

@@ -1,53 +1,39 @@
--- A return that is read part by part: what may still be left, after each part.
-use Rattle.std.proofs.Common.{◌≡◌, ℕ, List, ◌++◌, Some, None, sym, ap, ◌∙◌, Bor}
+-- What is read part by part: a part, and what stands behind it.
+use Rattle.std.proofs.Common.{◌≡◌, List, ℕ, ◌++◌, Some, None, Option, Bor, arith}
 use Rattle.std.proofs.lemmas.List.{append_cancel_left}
-use Rattle.returns.specs.declared.returned.Return.{Return}
 use Rattle.slip.specs.Parts.{Takes, Whole}
-use Rattle.slip.specs.Slips.{slip_of}
 
--- where x has `before` still to be read, its next part is `of x`, and `after` stands behind that
-pub record Part {X P : Type 0} (Is : P → Type 0) (text : P → List ℕ) (Ends : List ℕ → Type 0) (before after : X → List ℕ) : Type 0 where
-  pub of : X → P
-  pub is : (x : X) → Is (of x)
-  pub ends : (x : X) → Ends (after x)
-  pub split : (x : X) → text (of x) ++ after x ≡ before x
+-- what may stand there, and how it is written
+pub record Format (X : Type 0) : Type 1 where
+  pub Is : X → Type 0
+  pub text : X → List ℕ
 
--- whatever has the input as its text, has this left
-abbrev pub Left : {X : Type 0} → (X → List ℕ) → List ℕ → (X → List ℕ) → List ℕ → Type 0
-Left {X} whole input tail rest = (x : X) → whole x ≡ input → tail x ≡ rest
+abbrev pub ReadAs : {X : Type 0} → Format X → List ℕ → Option X → Type 0
+ReadAs format input answer = Whole format.Is format.text input answer
 
-module _ {X P : Type 0} {whole : X → List ℕ} {input : List ℕ} {Is : P → Type 0} {text : P → List ℕ} {Ends : List ℕ → Type 0} {before after : X → List ℕ} {rest : List ℕ} (part : Part Is text Ends before after) (left : Left whole input before rest) where
-  pub past : {p : P} {behind : Bor (List ℕ)} → Takes Is text Ends rest (Some (p, behind)) → Left whole input after behind.now
-  past takes x e = sym (takes.exact (part.of x) (after x) (part.is x) (part.ends x) (part.split x ∙ left x e)).1
+-- a part before what `behind` says
+abbrev pub before : {X Y : Type 0} → (X → Type 0) → (X → List ℕ) → Format Y → Format (X × Y)
+before Is text behind = record { Is = λ z. Is z.0 × behind.Is z.1; text = λ z. text z.0 ++ behind.text z.1 }
 
-  pub value : {p : P} {behind : Bor (List ℕ)} → Takes Is text Ends rest (Some (p, behind)) → (x : X) → whole x ≡ input → p ≡ part.of x
-  value takes x e = (takes.exact (part.of x) (after x) (part.is x) (part.ends x) (part.split x ∙ left x e)).0
+abbrev pub after_word : {Y : Type 0} → List ℕ → Format Y → Format Y
+after_word word behind = record { Is = behind.Is; text = λ y. word ++ behind.text y }
 
-  pub not_there : Takes Is text Ends rest None → (x : X) → whole x ≡ input → ⊥
-  not_there takes x e = takes.exact (part.of x) (after x) (part.is x) (part.ends x) (part.split x ∙ left x e)
+abbrev pub Follows : {Y : Type 0} → Format Y → (List ℕ → Type 0) → Type 0
+Follows {Y} behind Ends = (y : Y) → behind.Is y → Ends (behind.text y)
 
--- a word that is always there
-pub past_word : {X : Type 0} {whole : X → List ℕ} {input rest : List ℕ} (after : X → List ℕ) (word behind : List ℕ)
-    → Left whole input (λ x. word ++ after x) rest → rest ≡ word ++ behind → Left whole input after behind
-past_word after word behind left split x e = append_cancel_left word (after x) behind (left x e ∙ split)
+module _ {X Y : Type 0} {Is : X → Type 0} {text : X → List ℕ} {Ends : List ℕ → Type 0} {input : List ℕ} (behind : Format Y) (follows : Follows behind Ends) where
+  pub no_part : Takes Is text Ends input None → ReadAs (before Is text behind) input None
+  no_part none = grind arith
 
--- one of the forms of a return, as what a return of that form holds
-pub record Form (Is : Return → Type 0) (X : Type 0) : Type 0 where
-  pub make : X → Return
-  pub is : (x : X) → Is (make x)
-  pub all : (t : Return) → Is t → (x : X) × (t ≡ make x)
+  pub no_rest : {x : X} {rest : Bor (List ℕ)} → Takes Is text Ends input (Some (x, rest)) → ReadAs behind rest.now None → ReadAs (before Is text behind) input None
+  no_rest takes none = grind arith
 
-module _ {Is : Return → Type 0} {X : Type 0} (form : Form Is X) (input : List ℕ) where
-  pub none_of : ((x : X) → slip_of (form.make x) ≡ input → ⊥) → Whole Is slip_of input None
-  none_of never = record {
-    stands = tt;
-    exact = λ t is e. let made = form.all t is in absurd (never made.0 (sym (ap slip_of made.1) ∙ e));
-  }
+  pub both_read : {x : X} {y : Y} {rest : Bor (List ℕ)} → Takes Is text Ends input (Some (x, rest)) → ReadAs behind rest.now (Some y) → ReadAs (before Is text behind) input (Some (x, y))
+  both_read {x} {y} takes read = grind arith
 
-  pub this_one : (x : X) → slip_of (form.make x) ≡ input → ((y : X) → slip_of (form.make y) ≡ input → x ≡ y) → Whole Is slip_of input (Some (form.make x))
-  this_one x text only = record {
-    stands = (form.is x, text);
-    exact = λ t is e.
-        let made = form.all t is in
-        ap Some (ap form.make (only made.0 (sym (ap slip_of made.1) ∙ e)) ∙ sym made.1);
-  }
+module _ {Y : Type 0} {input : List ℕ} (word : List ℕ) (behind : Format Y) where
+  pub no_word : ((rest : List ℕ) → input ≡ word ++ rest → ⊥) → ReadAs (after_word word behind) input None
+  no_word none = grind arith
+
+  pub word_read : {rest : List ℕ} {answer : Option Y} → input ≡ word ++ rest → ReadAs behind rest answer → ReadAs (after_word word behind) input answer
+  word_read {rest} {answer} split read = grind (arith, append_cancel_left)

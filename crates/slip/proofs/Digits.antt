@@ -1,76 +1,59 @@
--- What is answered where a level or tricks are read.
-use Rattle.std.proofs.Common.{◌≡◌, ℕ, ◌+◌, ◌/◌, ◌%◌, ◌<◌, ◌≤◌, List, [], ◌∷◌, ◌++◌, length, get_or, Some, None, decimal, sym, ap, ◌∙◌, inl, inr, arith, Bor}
+-- Levels and tricks: 0 to 9 are one digit, 10 to 13 are a 1 and a digit.
+use Rattle.std.proofs.Common.{◌≡◌, ℕ, ◌+◌, ◌/◌, ◌%◌, ◌<◌, ◌≤◌, List, [], ◌∷◌, ◌++◌, length, get_or, decimal, sym, ap, ◌∙◌, arith}
+use Rattle.std.specs.List.{between}
 use Rattle.std.proofs.lemmas.Fmt.{decimal_digit, decimal_step}
-use Rattle.std.proofs.lemmas.Bool.{cases_lt}
-use Rattle.slip.specs.Parts.{Takes, Always, IsLevel, IsTricks, IsEnd}
+use Rattle.std.proofs.lemmas.Slice.{first_rest, between_to_end}
+use Rattle.slip.specs.Parts.{IsEnd}
 
 pub one_digit : (n : ℕ) (rest : List ℕ) → n < 10 → decimal n ++ rest ≡ (48 + n) ∷ rest
 one_digit n rest small = ap (λ digits. digits ++ rest) (decimal_digit n small)
 
--- from 10 to 13
-pub ten_and : (n : ℕ) → 10 ≤ n → n ≤ 13 → decimal n ≡ 49 ∷ (38 + n) ∷ []
-ten_and n low high =
+pub two_digits : (n : ℕ) (rest : List ℕ) → 10 ≤ n → n ≤ 13 → decimal n ++ rest ≡ 49 ∷ (38 + n) ∷ rest
+two_digits n rest low high =
     let tens : n / 10 ≡ 1 = omega arith in
     let ones : 48 + n % 10 ≡ 38 + n = omega arith in
     let first : decimal (n / 10) ≡ 49 ∷ [] = ap decimal tens ∙ decimal_digit 1 (omega arith) in
-    decimal_step n low (omega arith) ∙ (λ i. first i ++ (ones i ∷ []))
-
-pub two_digits : (n : ℕ) (rest : List ℕ) → 10 ≤ n → n ≤ 13 → decimal n ++ rest ≡ 49 ∷ (38 + n) ∷ rest
-two_digits n rest low high = ap (λ digits. digits ++ rest) (ten_and n low high)
-
-pub level_found : (n : ℕ) (input : List ℕ) (rest : Bor (List ℕ)) → (48 + n) ∷ rest.now ≡ input → IsLevel n → Takes IsLevel decimal Always input (Some (n, rest))
-level_found n input rest split is = record {
-  stands = (is, one_digit n rest.now (omega arith) ∙ split);
-  exact = λ m tail ism _ e.
-      let same : (48 + m) ∷ tail ≡ (48 + n) ∷ rest.now = sym (one_digit m tail (omega arith)) ∙ e ∙ sym split in
-      let digits : 48 + m ≡ 48 + n = cc in
-      (omega arith, cc);
-}
-
-pub level_none : (input : List ℕ) → ((n : ℕ) → IsLevel n → 48 + n ≡ get_or input 0 0 → ⊥) → Takes IsLevel decimal Always input None
-level_none input no_level = record {
-  stands = tt;
-  exact = λ m tail is _ e. no_level m is (ap (λ l. get_or l 0 0) (sym (one_digit m tail (omega arith)) ∙ e));
-}
+    ap (λ digits. digits ++ rest) (decimal_step n low (omega arith) ∙ (λ i. first i ++ (ones i ∷ [])))
 
 -- what ends a number begins with no digit
-pub no_digit : (b : ℕ) (rest tail : List ℕ) → tail ≡ b ∷ rest → IsEnd tail → b ≡ 32
-no_digit b rest [] e end = absurd (omega (arith, ap length e))
-no_digit b rest (x ∷ tail) e end = cc
+pub no_second : (n : ℕ) (rest : List ℕ) → n < 10 → IsEnd rest → get_or (decimal n ++ rest) 1 0 ≤ 32
+no_second n [] small end = omega (arith, ap (λ l. get_or l 1 0) (one_digit n [] small))
+no_second n (b ∷ rest) small end = omega (arith, end, ap (λ l. get_or l 1 0) (one_digit n (b ∷ rest) small))
 
-pub two_digits_found : (n : ℕ) (input : List ℕ) (rest : Bor (List ℕ)) → 49 ∷ (38 + n) ∷ rest.now ≡ input → 10 ≤ n → n ≤ 13 → Takes IsTricks decimal IsEnd input (Some (n, rest))
-two_digits_found n input rest split low high = record {
-  stands = (high, two_digits n rest.now low high ∙ split);
-  exact = λ m tail is end e. elim (cases_lt m 10) [
-    | inl small ↦
-        let same : (48 + m) ∷ tail ≡ 49 ∷ (38 + n) ∷ rest.now = sym (one_digit m tail small) ∙ e ∙ sym split in
-        let after : tail ≡ (38 + n) ∷ rest.now = cc in
-        absurd (omega (arith, no_digit (38 + n) rest.now tail after end))
-    | inr large ↦
-        let same : 49 ∷ (38 + m) ∷ tail ≡ 49 ∷ (38 + n) ∷ rest.now = sym (two_digits m tail large is) ∙ e ∙ sym split in
-        let digits : 38 + m ≡ 38 + n = cc in
-        (omega arith, cc)
-  ];
-}
+-- an input as its first byte or two, and the rest
+one_first : (input : List ℕ) → 1 ≤ length input → get_or input 0 0 ∷ between 1 (length input) input ≡ input
+one_first input some = sym (first_rest input 0 some)
 
-pub one_digit_found : (n : ℕ) (input : List ℕ) (rest : Bor (List ℕ)) → (48 + n) ∷ rest.now ≡ input → n ≤ 9
-    → ((m : ℕ) (tail : List ℕ) → 10 ≤ m → m ≤ 13 → 49 ∷ (38 + m) ∷ tail ≡ input → ⊥) → Takes IsTricks decimal IsEnd input (Some (n, rest))
-one_digit_found n input rest split small not_two = record {
-  stands = (omega arith, one_digit n rest.now (omega arith) ∙ split);
-  exact = λ m tail is end e. elim (cases_lt m 10) [
-    | inl below ↦
-        let same : (48 + m) ∷ tail ≡ (48 + n) ∷ rest.now = sym (one_digit m tail below) ∙ e ∙ sym split in
-        let digits : 48 + m ≡ 48 + n = cc in
-        (omega arith, cc)
-    | inr large ↦ absurd (not_two m tail large is (sym (two_digits m tail large is) ∙ e))
-  ];
-}
+two_first : (input : List ℕ) → 2 ≤ length input → get_or input 0 0 ∷ get_or input 1 0 ∷ between 2 (length input) input ≡ input
+two_first [] some = absurd (omega arith)
+two_first (b ∷ []) some = absurd (omega arith)
+two_first (b ∷ d ∷ rest) some = ap (λ r. b ∷ d ∷ r) (between_to_end (b ∷ d ∷ rest) 2 (length (b ∷ d ∷ rest)) (omega arith))
 
-pub tricks_none : (input : List ℕ) → ((n : ℕ) → n ≤ 9 → 48 + n ≡ get_or input 0 0 → ⊥) → Takes IsTricks decimal IsEnd input None
-tricks_none input no_digits = record {
-  stands = tt;
-  exact = λ m tail is end e. elim (cases_lt m 10) [
-    | inl below ↦ no_digits m (omega arith) (ap (λ l. get_or l 0 0) (sym (one_digit m tail below) ∙ e))
-    | inr large ↦ no_digits 1 (omega arith) (ap (λ l. get_or l 0 0) (sym (two_digits m tail large is) ∙ e))
-  ];
-}
+-- an input that begins with a number, and what is behind that
+pub one_at : (n : ℕ) (input : List ℕ) → 1 ≤ length input → 48 + n ≡ get_or input 0 0 → n < 10 → decimal n ++ between 1 (length input) input ≡ input
+one_at n input some first small = grind (arith, one_digit, one_first)
+
+pub behind_one : (n : ℕ) (rest input : List ℕ) → n < 10 → decimal n ++ rest ≡ input → between 1 (length input) input ≡ rest
+behind_one n rest input small e =
+    let shape : (48 + n) ∷ rest ≡ input = sym (one_digit n rest small) ∙ e in
+    let first = one_first input (omega (arith, ap length shape)) in
+    cc
+
+pub two_at : (n : ℕ) (input : List ℕ) → 2 ≤ length input → 49 ≡ get_or input 0 0 → 38 + n ≡ get_or input 1 0 → 10 ≤ n → n ≤ 13 → decimal n ++ between 2 (length input) input ≡ input
+two_at n input some first second low high = grind (arith, two_digits, two_first)
+
+pub behind_two : (n : ℕ) (rest input : List ℕ) → 10 ≤ n → n ≤ 13 → decimal n ++ rest ≡ input → between 2 (length input) input ≡ rest
+behind_two n rest input low high e =
+    let shape : 49 ∷ (38 + n) ∷ rest ≡ input = sym (two_digits n rest low high) ∙ e in
+    let first = two_first input (omega (arith, ap length shape)) in
+    cc
+
+pub ruleset levels = (one_digit, one_at, behind_one)
+
+pub ruleset tricks = (one_digit, one_at, behind_one, two_digits, two_at, behind_two, no_second)
+
+pub digit_alone : (m n : ℕ) (r s : List ℕ) → m < 10 → n < 10 → decimal m ++ r ≡ decimal n ++ s → m ≡ n
+digit_alone m n r s small small' e = grind (arith, one_digit)
+
+pub tricks_alone : (m n : ℕ) (r s : List ℕ) → m ≤ 13 → n ≤ 13 → IsEnd r → IsEnd s → decimal m ++ r ≡ decimal n ++ s → m ≡ n
+tricks_alone m n r s most most' end end' e = grind (arith, one_digit, two_digits, no_second)

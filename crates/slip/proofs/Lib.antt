@@ -1,11 +1,8 @@
-mod Inputs
-mod Symbols
-mod Digits
-mod Doublings
-mod Groups
-mod Chains
-mod Scored
-mod Averages
-mod Forms
-mod Written
-mod Distinct
+pub mod Found
+pub mod Digits
+pub mod GroupTexts
+pub mod Lengths
+pub mod Symbols
+pub mod Chains
+pub mod Scored
+pub mod Distinct

@@ -1,5 +1,5 @@
 -- How the parts of a return are written.
-use Rattle.std.specs.Prelude.{ℕ, List, codes}
+use Rattle.std.specs.Prelude.{ℕ, List, ◌++◌, codes}
 use Rattle.contract.specs.declared.contract.Declarer.{Declarer}
 use Rattle.contract.specs.declared.contract.Declarer.TheVariants.{North, East, South, West}
 use Rattle.contract.specs.declared.contract.Denomination.{Denomination}
@@ -20,6 +20,10 @@ abbrev pub doubling_text : Doubling → List ℕ
 doubling_text Undoubled = codes ""
 doubling_text Doubled = codes "X"
 doubling_text Redoubled = codes "XX"
+
+-- a doubling and the space behind it
+abbrev pub doubling_part : Doubling → List ℕ
+doubling_part d = doubling_text d ++ codes " "
 
 abbrev pub declarer_text : Declarer → List ℕ
 declarer_text North = codes "N"

@@ -2,4 +2,3 @@ pub mod Letters
 pub mod Slips
 pub mod Reading
 pub mod Parts
-pub mod Texts

@@ -1,5 +1,5 @@
 -- The slip of a return.
-use Rattle.std.specs.Prelude.{ℕ, cond, List, [], ◌++◌, codes, decimal, ◌==◌}
+use Rattle.std.specs.Prelude.{ℕ, if◌then◌else◌, List, [], ◌++◌, codes, decimal, ◌==◌}
 use Rattle.returns.specs.declared.group.Group.{Group}
 use Rattle.returns.specs.declared.returned.Return.{Return}
 use Rattle.returns.specs.declared.returned.Return.TheVariants.{Scored, Passed, Averages}
@@ -7,7 +7,7 @@ use Rattle.slip.specs.Letters.{denomination_text, doubling_text, declarer_text, 
 
 -- group 0 is not written
 abbrev pub group_text : Group → List ℕ
-group_text g = cond (g.number == 0) [] (codes " G" ++ decimal g.number)
+group_text g = if g.number == 0 then [] else codes " G" ++ decimal g.number
 
 abbrev pub slip_of : Return → List ℕ
 -- as 4SX N 10 G1

@@ -2,13 +2,10 @@
 
 #![tactic(auto)]
 
-mod doubling;
 mod group;
 mod numbers;
-mod put;
 mod reader;
 mod symbol;
-mod text;
 mod writer;
 
 pub use reader::read;

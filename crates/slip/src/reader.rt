@@ -5,11 +5,10 @@ ghost use Rattle.slip.specs.Parts.{Whole, IsScored, IsPassed, IsAverages};
 ghost use Rattle.slip.specs.Reading.{Reads};
 ghost use Rattle.slip.specs.Slips.{slip_of};
 
-use crate::doubling::take_doubling;
 use crate::group::read_group;
 use crate::numbers::{take_level, take_tricks};
 use crate::symbol::take_symbol;
-use contract::{Contract, Declarer, Denomination};
+use contract::{Contract, Declarer, Denomination, Doubling};
 use refusal::Refusal;
 use returns::{Average, Return};
 
@@ -29,7 +28,7 @@ fn read_scored(input: &[u8]) -> Option<Return>
 {
     let (level, rest) = take_level(input)?;
     let (denomination, rest) = take_symbol(&Denomination::ALL, rest)?;
-    let (doubling, rest) = take_doubling(rest)?;
+    let (doubling, rest) = take_symbol(&Doubling::ALL, rest)?;
     let (declarer, rest) = take_symbol(&Declarer::ALL, rest)?;
     let rest = rest.strip_prefix(b" ")?;
     let (tricks, rest) = take_tricks(rest)?;

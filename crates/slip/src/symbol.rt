@@ -1,39 +1,49 @@
-// What is written as one byte: denominations, declarers and averages.
-ghost use Rattle.std.specs.Prelude.{◌≡◌, ℕ, List, [], ◌∷◌, length};
-ghost use Rattle.std.specs.List.{ContainsAt};
-ghost use Rattle.slip.specs.Letters.{denomination_text, declarer_text, average_text};
+// What is written as one of a few texts: denominations, doublings, declarers and averages.
+ghost use Rattle.std.specs.Prelude.{◌≡◌, ℕ, List, ◌++◌, Contains};
+ghost use Rattle.slip.specs.Letters.{denomination_text, doubling_part, declarer_text, average_text};
 ghost use Rattle.slip.specs.Parts.{Takes, Always};
 ghost use Rattle.std.proofs.Common.{rules};
 
-use contract::{Declarer, Denomination};
+use contract::{Declarer, Denomination, Doubling};
 use returns::Average;
 
-/// Is written as one byte, each value as another.
+/// A part of a slip that is one of a few texts. No text begins with another.
 pub(crate) trait Symbol: Copy {
     ghost text: { Self → List ℕ };
 
-    fn byte(self) -> u8
-        ensures { text self ≡ result ∷ [] };
+    fn text(self) -> &'static str
+        ensures { result.now ≡ text self };
 
-    ghost single: { (x : Self) → length (text x) ≡ 1 };
-
-    ghost distinct: { (x y : Self) → text x ≡ text y → x ≡ y };
+    ghost apart: { (x y : Self) (r s : List ℕ) → text x ++ r ≡ text y ++ s → x ≡ y };
 }
 
 impl Symbol for Denomination {
     ghost text = { denomination_text };
 
-    ghost single = { Prim.search rules };
+    ghost apart = { Prim.search rules };
 
-    ghost distinct = { Prim.search rules };
-
-    fn byte(self) -> u8 {
+    fn text(self) -> &'static str {
         match self {
-            Denomination::Clubs => b'C',
-            Denomination::Diamonds => b'D',
-            Denomination::Hearts => b'H',
-            Denomination::Spades => b'S',
-            Denomination::NoTrump => b'N',
+            Denomination::Clubs => "C",
+            Denomination::Diamonds => "D",
+            Denomination::Hearts => "H",
+            Denomination::Spades => "S",
+            Denomination::NoTrump => "N",
+        }
+    }
+}
+
+/// Written with the space behind it, since `X` alone would begin `XX` too.
+impl Symbol for Doubling {
+    ghost text = { doubling_part };
+
+    ghost apart = { Prim.search rules };
+
+    fn text(self) -> &'static str {
+        match self {
+            Doubling::Undoubled => " ",
+            Doubling::Doubled => "X ",
+            Doubling::Redoubled => "XX ",
         }
     }
 }
@@ -41,16 +51,14 @@ impl Symbol for Denomination {
 impl Symbol for Declarer {
     ghost text = { declarer_text };
 
-    ghost single = { Prim.search rules };
+    ghost apart = { Prim.search rules };
 
-    ghost distinct = { Prim.search rules };
-
-    fn byte(self) -> u8 {
+    fn text(self) -> &'static str {
         match self {
-            Declarer::North => b'N',
-            Declarer::East => b'E',
-            Declarer::South => b'S',
-            Declarer::West => b'W',
+            Declarer::North => "N",
+            Declarer::East => "E",
+            Declarer::South => "S",
+            Declarer::West => "W",
         }
     }
 }
@@ -58,30 +66,23 @@ impl Symbol for Declarer {
 impl Symbol for Average {
     ghost text = { average_text };
 
-    ghost single = { Prim.search rules };
+    ghost apart = { Prim.search rules };
 
-    ghost distinct = { Prim.search rules };
-
-    fn byte(self) -> u8 {
+    fn text(self) -> &'static str {
         match self {
-            Average::Plus => b'+',
-            Average::Even => b'=',
-            Average::Minus => b'-',
+            Average::Plus => "+",
+            Average::Even => "=",
+            Average::Minus => "-",
         }
     }
 }
 
 /// Reads one of these symbols.
 pub(crate) fn take_symbol<'a, S: Symbol>(all: &[S], input: &'a [u8]) -> Option<(S, &'a [u8])>
-    ensures { Takes (ContainsAt all.now) S.Symbol.text Always input.now result }
+    ensures { Takes (Contains all.now) S.Symbol.text Always input.now result }
 {
-    let [first, rest @ ..] = input else {
-        return None;
-    };
-    for symbol in all {
-        if symbol.byte() == *first {
-            return Some((*symbol, rest));
-        }
-    }
-    None
+    let symbol = all
+        .iter()
+        .find(|symbol| input.starts_with(symbol.text().as_bytes()))?;
+    Some((*symbol, &input[symbol.text().len()..]))
 }

@@ -6,55 +6,62 @@ ghost use Rattle.returns.specs.declared.returned.Return.{Return};
 ghost use Rattle.returns.specs.declared.returned.Return.TheVariants.{Scored, Passed, Averages};
 ghost use Rattle.slip.specs.Reading.{Reads};
 ghost use Rattle.slip.specs.Slips.{slip_of};
-ghost use Rattle.slip.specs.Texts.{written};
 
+use crate::group::text_of_group;
 use crate::symbol::Symbol;
-use crate::text::Text;
+use arrayvec::ArrayString;
 use contract::Contract;
 use refusal::Refusal;
 use returns::{Average, Group, Return};
 
-fn scored_text(c: Contract, group: Group) -> Text
-    ensures { written result ≡ slip_of (Scored c group) }
+/// A slip as it is put together. The longest, as `7NXX N 13 G3`, has twelve bytes.
+type Slip = ArrayString<12>;
+
+#[tactic(auto, using(crate::proofs::Lengths::lengths))]
+fn scored_slip(contract: Contract, group: Group) -> Slip
+    ensures { result.bytes ≡ slip_of (Scored contract group) }
 {
-    let mut text = Text::new();
-    text.put_digit(c.level);
-    text.put(&[c.denomination.byte()]);
-    text.put_doubling(c.doubling);
-    text.put(&[b' ', c.declarer.byte(), b' ']);
-    text.put_tricks(c.tricks);
-    text.put_group(group);
-    text
+    let mut slip = Slip::new();
+    slip.push_str(itoa::Buffer::new().format(contract.level));
+    slip.push_str(contract.denomination.text());
+    slip.push_str(contract.doubling.text());
+    slip.push_str(contract.declarer.text());
+    slip.push_str(" ");
+    slip.push_str(itoa::Buffer::new().format(contract.tricks));
+    slip.push_str(text_of_group(group));
+    slip
 }
 
-fn passed_text(group: Group) -> Text
-    ensures { written result ≡ slip_of (Passed group) }
+#[tactic(auto, using(crate::proofs::Lengths::lengths))]
+fn passed_slip(group: Group) -> Slip
+    ensures { result.bytes ≡ slip_of (Passed group) }
 {
-    let mut text = Text::new();
-    text.put(b"PASS");
-    text.put_group(group);
-    text
+    let mut slip = Slip::new();
+    slip.push_str("PASS");
+    slip.push_str(text_of_group(group));
+    slip
 }
 
-fn averages_text(north_south: Average, east_west: Average) -> Text
-    ensures { written result ≡ slip_of (Averages north_south east_west) }
+fn averages_slip(north_south: Average, east_west: Average) -> Slip
+    ensures { result.bytes ≡ slip_of (Averages north_south east_west) }
 {
-    let mut text = Text::new();
-    text.put(b"AVE ");
-    text.put(&[north_south.byte(), east_west.byte()]);
-    text
+    let mut slip = Slip::new();
+    slip.push_str("AVE ");
+    slip.push_str(north_south.text());
+    slip.push_str(east_west.text());
+    slip
 }
 
-fn text_of(returned: Return) -> Text
-    ensures { written result ≡ slip_of returned }
+fn slip_of_return(returned: Return) -> Slip
+    ensures { result.bytes ≡ slip_of returned }
 {
     match returned {
-        Return::Scored { contract, group } => scored_text(contract, group),
-        Return::Passed { group } => passed_text(group),
+        Return::Scored { contract, group } => scored_slip(contract, group),
+        Return::Passed { group } => passed_slip(group),
         Return::Averages {
             north_south,
             east_west,
-        } => averages_text(north_south, east_west),
+        } => averages_slip(north_south, east_west),
     }
 }
 
@@ -65,11 +72,11 @@ pub fn write(returned: Return, out: &mut [u8]) -> Result<usize, Refusal>
     ensures refused { IfErr result (λ e. (e ≡ OutputTooShort) × (length out.old < length (slip_of returned)) × (out.new ≡ out.old)) }
     ensures back { IfOk result (λ n. (answer : Result Return Refusal) → Reads (take n out.new) answer → answer ≡ Ok returned) }
 {
-    let text = text_of(returned);
-    let n = text.len;
+    let slip = slip_of_return(returned);
+    let n = slip.len();
     if out.len() < n {
         return Err(Refusal::OutputTooShort);
     }
-    out[0..n].copy_from_slice(&text.bytes[0..n]);
+    out[..n].copy_from_slice(slip.as_bytes());
     Ok(n)
 }
