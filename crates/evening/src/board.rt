@@ -1,5 +1,4 @@
 // What a board scored at each table, and why.
-use crate::words;
 use contract::{Contract, Vulnerability};
 use scoring::{Outcome, Score};
 use std::io;
@@ -23,18 +22,11 @@ pub(crate) fn print_result(
     match played {
         None => println!(rt; "  passed out"),
         Some(contract) => {
-            print_contract(rt, contract)?;
+            println!(rt; "  {contract}")?;
             let vulnerable = Vulnerability::of_board(board).applies_to(contract.declarer);
             print_outcome(rt, Outcome::of(contract, vulnerable))
         }
     }
-}
-
-fn print_contract(rt: &impl Print, c: Contract) -> io::Result<()> {
-    let denomination = words::denomination(c.denomination);
-    let doubling = words::doubling(c.doubling);
-    print!(rt; "  {} {denomination}{doubling} ", c.level)?;
-    println!(rt; "by {}, {} tricks", words::declarer(c.declarer), c.tricks)
 }
 
 fn print_outcome(rt: &impl Print, outcome: Outcome) -> io::Result<()> {

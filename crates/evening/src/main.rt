@@ -6,11 +6,11 @@
 mod board;
 mod cards;
 mod tables;
-mod words;
 
 use contract::{Contract, Declarer, Denomination, Doubling, Vulnerability};
 use plan::BoardsPerSet;
 use refusal::Refusal;
+use scoring::Score;
 use std::io;
 
 const BOARD: u8 = 7;
@@ -58,26 +58,24 @@ fn results() -> Result<[Option<Contract>; 6], Refusal> {
 }
 
 fn print_board(rt: &impl Print, results: &[Option<Contract>]) -> io::Result<()> {
-    let vulnerable = words::vulnerability(Vulnerability::of_board(BOARD));
-    println!(rt;
-        "\nBoard {BOARD}, {vulnerable}, was played at {} tables.",
-        results.len()
-    )?;
-    for i in 0..results.len() {
-        board::print_result(rt, BOARD, i + 1, results[i])?;
+    let vulnerability = Vulnerability::of_board(BOARD);
+    let tables = results.len();
+    println!(rt; "\nBoard {BOARD}, {vulnerability}, was played at {tables} tables.")?;
+    for (i, played) in results.iter().enumerate() {
+        board::print_result(rt, BOARD, i + 1, *played)?;
     }
-    println!(rt; "{}", words::COMPARING)
+    println!(rt; "{}", tables::COMPARING)
 }
 
 fn run(rt: &HostRuntime) -> anyhow::Result<()> {
     println!(rt; "{}", cards::EVENT)?;
-    cards::print_cards(rt, &cards::event()?, BoardsPerSet::new(cards::BOARDS)?)?;
+    cards::print_cards(rt, &cards::event()?, BoardsPerSet::try_from(cards::BOARDS)?)?;
     let results = results()?;
     print_board(rt, &results)?;
-    let mut scores = Vec::new(rt.alloc());
-    for result in results.iter() {
-        scores.push(board::score(BOARD, *result))?;
-    }
+    let scores: Vec<Score> = results
+        .iter()
+        .map(|played| board::score(BOARD, *played))
+        .collect(rt.alloc())?;
     tables::print_comparisons(rt, scores.as_slice())?;
     Ok(())
 }

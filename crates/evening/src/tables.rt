@@ -1,52 +1,70 @@
 // How the tables of a board compare.
 use comparison::{Comparison, Imps, Matchpoints, TotalPoints};
 use scoring::Score;
-use std::io;
+use std::{fmt, io};
 
-/// Every table with every other, by all three ways.
-pub(crate) fn print_comparisons(rt: &impl Print, scores: &[Score]) -> io::Result<()> {
-    for i in 0..scores.len() {
-        println!(rt;
-            "Table {}, North-South score {}:",
-            i + 1,
-            scores[i].points()
-        )?;
-        for j in 0..scores.len() {
-            if i != j {
-                print_pair(rt, j + 1, scores[i], scores[j])?;
-            }
+/// What is compared, to stand above the tables.
+pub(crate) const COMPARING: &str = "
+What North-South win at each table from each other table, and in all:
+by matchpoints, 2 for a higher score and 1 for an equal one;
+by IMPs, how many of the 24 starts of the scale the difference reaches;
+by total points, the difference.";
+
+/// What is won, by each of the three ways.
+#[derive(Clone, Copy, Default)]
+struct Won {
+    matchpoints: i32,
+    imps: i32,
+    total_points: i32,
+}
+
+impl Won {
+    fn from(own: Score, other: Score) -> Won {
+        Won {
+            matchpoints: Matchpoints.compare(own, other).0,
+            imps: Imps.compare(own, other).0,
+            total_points: TotalPoints.compare(own, other).0,
         }
-        print_totals(rt, scores, i)?;
+    }
+
+    fn and(self, more: Won) -> Won {
+        Won {
+            matchpoints: self.matchpoints.saturating_add(more.matchpoints),
+            imps: self.imps.saturating_add(more.imps),
+            total_points: self.total_points.saturating_add(more.total_points),
+        }
+    }
+}
+
+impl fmt::Display for Won {
+    fn fmt<W: fmt::Write>(&self, f: &mut fmt::Formatter<W>) -> fmt::Result {
+        let (matchpoints, imps) = (self.matchpoints, self.imps);
+        let points = self.total_points;
+        write!(
+            f,
+            "matchpoints {matchpoints}, IMPs {imps}, total points {points}"
+        )
+    }
+}
+
+/// Every table with every other.
+pub(crate) fn print_comparisons(rt: &impl Print, scores: &[Score]) -> io::Result<()> {
+    for (table, own) in scores.iter().enumerate() {
+        let points = own.points();
+        println!(rt; "Table {}, North-South score {points}:", table + 1)?;
+        print_table(rt, scores, table, *own)?;
     }
     Ok(())
 }
 
-fn print_pair(rt: &impl Print, table: usize, own: Score, other: Score) -> io::Result<()> {
-    let matchpoints = Matchpoints.compare(own, other).0;
-    let imps = Imps.compare(own, other).0;
-    let points = TotalPoints.compare(own, other).0;
-    println!(rt;
-        "  from table {table}: matchpoints {matchpoints}, IMPs {imps}, total points {points}"
-    )
-}
-
-fn print_totals(rt: &impl Print, scores: &[Score], table: usize) -> io::Result<()> {
-    let matchpoints = won(&Matchpoints, scores, table);
-    let imps = won(&Imps, scores, table);
-    let points = won(&TotalPoints, scores, table);
-    println!(rt; "  in all: matchpoints {matchpoints}, IMPs {imps}, total points {points}")
-}
-
-// What a table wins from all the others.
-fn won<C: Comparison>(way: &C, scores: &[Score], table: usize) -> i32 {
-    let Some(own) = scores.get(table) else {
-        return 0;
-    };
-    let mut sum: i32 = 0;
-    for (i, other) in scores.iter().enumerate() {
-        if i != table {
-            sum = sum.saturating_add(way.compare(*own, *other).0);
+fn print_table(rt: &impl Print, scores: &[Score], table: usize, own: Score) -> io::Result<()> {
+    let mut all = Won::default();
+    for (opponent, other) in scores.iter().enumerate() {
+        if opponent != table {
+            let won = Won::from(own, *other);
+            println!(rt; "  from table {}: {won}", opponent + 1)?;
+            all = all.and(won);
         }
     }
-    sum
+    println!(rt; "  in all: {all}")
 }

@@ -1,31 +1,19 @@
 // Slips that are damaged, and what reading them must answer.
 use crate::not_slips::NOT_SLIPS;
-use crate::slips::{AVERAGES, DAMAGED, PASSED, SCORED};
-use crate::tally::Tally;
+use crate::slips::{self, DAMAGED};
 use returns::Return;
 use std::alloc::{AllocError, Global};
+use tally::{Tally, refused_with};
 
 // What the tables say of these bytes: a return, or nothing where they are no slip.
 fn expected(bytes: &[u8]) -> Option<Return> {
-    for row in SCORED.iter() {
-        if bytes == row.0.as_bytes() {
-            return row.returned();
+    let mut found = None;
+    slips::each(|slip, returned| {
+        if slip.as_bytes() == bytes {
+            found = returned;
         }
-    }
-    for (slip, group) in PASSED.iter() {
-        if bytes == slip.as_bytes() {
-            return Return::passed(*group).ok();
-        }
-    }
-    for (slip, north_south, east_west) in AVERAGES.iter() {
-        if bytes == slip.as_bytes() {
-            return Some(Return::Averages {
-                north_south: *north_south,
-                east_west: *east_west,
-            });
-        }
-    }
-    None
+    });
+    found
 }
 
 /// What came of slips that are slips again after the damage, and of those that are not.
@@ -45,67 +33,41 @@ impl Damage {
         }
     }
 
-    // The three parts, joined.
-    fn check_parts(
-        &mut self,
-        heap: Global,
-        front: &[u8],
-        middle: &[u8],
-        back: &[u8],
-    ) -> Result<(), AllocError> {
-        let mut text = front.to_vec(heap)?;
-        text.extend_from_slice(middle)?;
-        text.extend_from_slice(back)?;
-        self.check(text.as_slice());
-        Ok(())
-    }
-
-    // Each byte left out, and the slip cut short before it and behind it.
-    fn check_cuts(&mut self, heap: Global, slip: &[u8]) -> Result<(), AllocError> {
-        for i in 0..slip.len() {
-            self.check_parts(heap, &slip[0..i], &[], &slip[i + 1..])?;
-            self.check_parts(heap, &slip[0..i], &[], &[])?;
-            self.check_parts(heap, &[], &[], &slip[i + 1..])?;
+    // Each byte between the front and the back.
+    fn check_bytes(&mut self, alloc: Global, front: &[u8], back: &[u8]) -> Result<(), AllocError> {
+        for byte in 0..=255 {
+            self.check([front, &[byte], back].concat(alloc)?.as_slice());
         }
         Ok(())
     }
 
-    // Each byte in the place of each.
-    fn check_changes(&mut self, heap: Global, slip: &[u8]) -> Result<(), AllocError> {
-        for i in 0..slip.len() {
-            for byte in 0..=255 {
-                self.check_parts(heap, &slip[0..i], &[byte], &slip[i + 1..])?;
-            }
-        }
-        Ok(())
-    }
-
-    // Each byte put in before each, and behind the last.
-    fn check_insertions(&mut self, heap: Global, slip: &[u8]) -> Result<(), AllocError> {
-        for i in 0..=slip.len() {
-            for byte in 0..=255 {
-                self.check_parts(heap, &slip[0..i], &[byte], &slip[i..])?;
+    // Each byte put in at each place; each byte in the place of each, and each left out; the slip cut short before each and
+    // behind it.
+    fn check_slip(&mut self, alloc: Global, slip: &[u8]) -> Result<(), AllocError> {
+        for place in 0..=slip.len() {
+            let (front, back) = slip.split_at(place);
+            self.check_bytes(alloc, front, back)?;
+            if let [_, behind @ ..] = back {
+                self.check_bytes(alloc, front, behind)?;
+                self.check([front, behind].concat(alloc)?.as_slice());
+                self.check(front);
+                self.check(behind);
             }
         }
         Ok(())
     }
 }
 
-pub(crate) fn damaged(heap: Global) -> Result<Damage, AllocError> {
+pub(crate) fn damaged(alloc: Global) -> Result<Damage, AllocError> {
     let mut damage = Damage::default();
     for slip in DAMAGED.iter() {
-        damage.check_cuts(heap, slip.as_bytes())?;
-        damage.check_changes(heap, slip.as_bytes())?;
-        damage.check_insertions(heap, slip.as_bytes())?;
+        damage.check_slip(alloc, slip.as_bytes())?;
     }
     Ok(damage)
 }
 
 fn is_refused(bytes: &[u8]) -> bool {
-    match slip::read(bytes) {
-        Ok(_) => false,
-        Err(refusal) => refusal.number() == 20,
-    }
+    refused_with(slip::read(bytes)) == Some(20)
 }
 
 pub(crate) fn not_slips() -> Tally {
@@ -117,12 +79,12 @@ pub(crate) fn not_slips() -> Tally {
 }
 
 /// Each slip of the tables, with a hundred thousand times each of some bytes behind it.
-pub(crate) fn long(heap: Global) -> Result<Tally, AllocError> {
+pub(crate) fn long(alloc: Global) -> Result<Tally, AllocError> {
     let mut tally = Tally::default();
     for slip in DAMAGED.iter() {
         for byte in b" 0X+".iter() {
-            let mut text = slip.as_bytes().to_vec(heap)?;
-            let tail = vec![in heap; *byte; 100_000]?;
+            let mut text = slip.as_bytes().to_vec(alloc)?;
+            let tail = vec![in alloc; *byte; 100_000]?;
             text.extend_from_slice(tail.as_slice())?;
             tally.check(is_refused(text.as_slice()));
         }

@@ -1,19 +1,15 @@
 // Returns: which there are, what they score, and their slips.
-use crate::played::{PLAYED, Played};
-use crate::slips::{AVERAGES, PASSED, SCORED};
-use crate::tally::Tally;
+use crate::slips;
 use contract::{Declarer, Denomination, Doubling};
-use refusal::Refusal;
 use returns::{Average, Return};
+use tally::{PLAYED, Played, Tally, refused_with};
 
 // What an output is filled with before a slip is written to it.
 const UNTOUCHED: u8 = b'?';
 
-fn is_made_or_13(returned: Result<Return, Refusal>, in_range: bool) -> bool {
-    match returned {
-        Ok(_) => in_range,
-        Err(refusal) => !in_range && refusal.number() == 13,
-    }
+// The number of the refusal that is due.
+fn due(in_range: bool) -> Option<u8> {
+    if in_range { None } else { Some(13) }
 }
 
 /// Levels 0 to 9, tricks 0 to 15 and groups 0 to 5.
@@ -31,12 +27,12 @@ pub(crate) fn ranges() -> Tally {
                     group,
                 );
                 let in_range = level != 0 && level < 8 && tricks < 14 && group < 4;
-                tally.check(is_made_or_13(returned, in_range));
+                tally.check(refused_with(returned) == due(in_range));
             }
         }
     }
     for group in 0..=255 {
-        tally.check(is_made_or_13(Return::passed(group), group < 4));
+        tally.check(refused_with(Return::passed(group)) == due(group < 4));
     }
     tally
 }
@@ -84,10 +80,7 @@ fn check_written(tally: &mut Tally, returned: Return, slip: &[u8], out: &mut [u8
 }
 
 fn check_too_short(tally: &mut Tally, returned: Return, out: &mut [u8]) {
-    tally.check(match slip::write(returned, out) {
-        Ok(_) => false,
-        Err(refusal) => refusal.number() == 16,
-    });
+    tally.check(refused_with(slip::write(returned, out)) == Some(16));
     for byte in out.iter() {
         tally.check(*byte == UNTOUCHED);
     }
@@ -113,19 +106,7 @@ fn check_slip(tally: &mut Tally, returned: Option<Return>, slip: &[u8]) {
 /// Every slip of the tables.
 pub(crate) fn slips() -> Tally {
     let mut tally = Tally::default();
-    for row in SCORED.iter() {
-        check_slip(&mut tally, row.returned(), row.0.as_bytes());
-    }
-    for (slip, group) in PASSED.iter() {
-        check_slip(&mut tally, Return::passed(*group).ok(), slip.as_bytes());
-    }
-    for (slip, north_south, east_west) in AVERAGES.iter() {
-        let returned = Return::Averages {
-            north_south: *north_south,
-            east_west: *east_west,
-        };
-        check_slip(&mut tally, Some(returned), slip.as_bytes());
-    }
+    slips::each(|slip, returned| check_slip(&mut tally, returned, slip.as_bytes()));
     tally
 }
 

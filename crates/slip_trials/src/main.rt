@@ -5,24 +5,23 @@
 mod damage;
 mod handed_in;
 mod not_slips;
-mod played;
 mod slips;
-mod tally;
 
 use std::io;
 
 fn main(rt: HostRuntime) -> io::Result<()> {
-    handed_in::ranges().print(&rt, "Returns made and refused")?;
-    handed_in::scores().print(&rt, "Scores of returns")?;
-    handed_in::slips().print(&rt, "Slips written and read")?;
-    handed_in::contracts().print(&rt, "Every contract in every group, written and read")?;
-    damage::not_slips().print(&rt, "What is no slip, refused")?;
-    damage::long(rt.alloc())?.print(&rt, "Slips with far too much behind them, refused")?;
+    println!(rt; "Returns made and refused: {}", handed_in::ranges())?;
+    println!(rt; "Scores of returns: {}", handed_in::scores())?;
+    println!(rt; "Slips written and read: {}", handed_in::slips())?;
+    let contracts = handed_in::contracts();
+    println!(rt; "Every contract in every group, written and read: {contracts}")?;
+    println!(rt; "What is no slip, refused: {}", damage::not_slips())?;
+    let long = damage::long(rt.alloc())?;
+    println!(rt; "Slips with far too much behind them, refused: {long}")?;
     let damage = damage::damaged(rt.alloc())?;
-    damage
-        .refused
-        .print(&rt, "Slips damaged in every byte, refused")?;
-    damage
-        .sound
-        .print(&rt, "Slips that the damage makes another slip")
+    println!(rt; "Slips damaged in every byte, refused: {}", damage.refused)?;
+    println!(rt;
+        "Slips that the damage makes another slip: {}",
+        damage.sound
+    )
 }

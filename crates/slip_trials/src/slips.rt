@@ -9,25 +9,17 @@ use returns::{Average, Return};
 
 /// The slip; level, denomination, doubling, declarer, tricks and group.
 #[derive(Clone, Copy)]
-pub(crate) struct Scored(
-    pub(crate) &'static str,
-    pub(crate) u8,
-    pub(crate) Denomination,
-    pub(crate) Doubling,
-    pub(crate) Declarer,
-    pub(crate) u8,
-    pub(crate) u8,
-);
+struct Scored(&'static str, u8, Denomination, Doubling, Declarer, u8, u8);
 
 impl Scored {
     /// What the slip says.
-    pub(crate) fn returned(self) -> Option<Return> {
+    fn returned(self) -> Option<Return> {
         let Scored(_, level, denomination, doubling, declarer, tricks, group) = self;
         Return::scored(level, denomination, doubling, declarer, tricks, group).ok()
     }
 }
 
-pub(crate) const SCORED: [Scored; 97] = [
+const SCORED: [Scored; 97] = [
     // 4SX N 10 and what is one byte away from it
     Scored("4SX N 10", 4, Spades, Doubled, North, 10, 0),
     Scored("1SX N 10", 1, Spades, Doubled, North, 10, 0),
@@ -132,15 +124,10 @@ pub(crate) const SCORED: [Scored; 97] = [
 ];
 
 /// The slip and its group.
-pub(crate) const PASSED: [(&str, u8); 4] = [
-    ("PASS", 0),
-    ("PASS G1", 1),
-    ("PASS G2", 2),
-    ("PASS G3", 3),
-];
+const PASSED: [(&str, u8); 4] = [("PASS", 0), ("PASS G1", 1), ("PASS G2", 2), ("PASS G3", 3)];
 
 /// The slip; North-South's average and East-West's.
-pub(crate) const AVERAGES: [(&str, Average, Average); 9] = [
+const AVERAGES: [(&str, Average, Average); 9] = [
     ("AVE ++", Plus, Plus),
     ("AVE +=", Plus, Even),
     ("AVE +-", Plus, Minus),
@@ -151,6 +138,25 @@ pub(crate) const AVERAGES: [(&str, Average, Average); 9] = [
     ("AVE -=", Minus, Even),
     ("AVE --", Minus, Minus),
 ];
+
+/// Every slip of the tables, with the return that it says.
+pub(crate) fn each<V: FnMut(&str, Option<Return>)>(mut visit: V)
+    requires { (state : V) (slip : _) (returned : _) → V.pre state slip returned }
+{
+    for row in SCORED.iter() {
+        visit(row.0, row.returned());
+    }
+    for (slip, group) in PASSED.iter() {
+        visit(slip, Return::passed(*group).ok());
+    }
+    for (slip, north_south, east_west) in AVERAGES.iter() {
+        let returned = Return::Averages {
+            north_south: *north_south,
+            east_west: *east_west,
+        };
+        visit(slip, Some(returned));
+    }
+}
 
 /// The slips that are damaged, byte by byte.
 pub(crate) const DAMAGED: [&str; 7] = [

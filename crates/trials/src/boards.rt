@@ -1,38 +1,5 @@
-// Scores on boards of every vulnerability, and what is refused.
-use contract::Declarer::{East, North, South, West};
-use contract::Denomination::{Clubs, Diamonds, Hearts, NoTrump, Spades};
-use contract::Doubling::{Doubled, Redoubled, Undoubled};
-use contract::{Declarer, Denomination, Doubling, Vulnerability};
-
-/// A contract, the tricks, the board, and North-South's score.
-#[derive(Clone, Copy)]
-pub(crate) struct Played(
-    pub(crate) u8,
-    pub(crate) Denomination,
-    pub(crate) Doubling,
-    pub(crate) Declarer,
-    pub(crate) u8,
-    pub(crate) u8,
-    pub(crate) i16,
-);
-
-pub(crate) const PLAYED: [Played; 15] = [
-    Played(1, NoTrump, Redoubled, North, 13, 4, 3160),
-    Played(7, NoTrump, Redoubled, North, 0, 4, -7600),
-    Played(2, Hearts, Doubled, North, 8, 1, 470),
-    Played(4, Spades, Doubled, North, 6, 1, -800),
-    Played(6, Diamonds, Undoubled, North, 12, 4, 1370),
-    Played(4, Spades, Undoubled, North, 10, 2, 620),
-    Played(4, Spades, Undoubled, East, 10, 2, -420),
-    Played(4, Spades, Undoubled, South, 10, 3, 420),
-    Played(4, Spades, Undoubled, West, 10, 3, -620),
-    Played(3, NoTrump, Undoubled, West, 9, 16, -600),
-    Played(3, NoTrump, Undoubled, North, 9, 16, 400),
-    Played(3, NoTrump, Doubled, East, 7, 2, 300),
-    Played(3, NoTrump, Doubled, East, 7, 3, 500),
-    Played(2, Clubs, Redoubled, South, 7, 5, -400),
-    Played(7, NoTrump, Redoubled, East, 0, 4, 7600),
-];
+// Vulnerabilities of boards, and what does not exist.
+use contract::Vulnerability;
 
 pub(crate) const VULNERABLE: [(u8, Vulnerability); 26] = [
     (1, Vulnerability::Neither),

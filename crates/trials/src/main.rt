@@ -10,37 +10,51 @@ mod refusals;
 mod runs;
 mod sizes;
 mod tables;
-mod tally;
 mod walks;
 
 use std::io;
 
 fn scores(rt: &impl Print) -> io::Result<()> {
-    runs::table(&tables::MADE).print(rt, "Contracts made exactly")?;
-    runs::table(&tables::OVERTRICKS).print(rt, "Contracts with overtricks")?;
-    runs::table(&tables::GRAND_SLAMS_DOWN).print(rt, "Undertricks of a grand slam")?;
-    runs::table(&tables::DOWN).print(rt, "Undertricks of lower contracts")?;
-    runs::played().print(rt, "Scores on a board")?;
-    runs::vulnerable().print(rt, "Vulnerability of a board")?;
-    runs::refused().print(rt, "Contracts and scores that do not exist")
+    println!(rt; "Contracts made exactly: {}", runs::table(&tables::MADE))?;
+    println!(rt;
+        "Contracts with overtricks: {}",
+        runs::table(&tables::OVERTRICKS)
+    )?;
+    println!(rt;
+        "Undertricks of a grand slam: {}",
+        runs::table(&tables::GRAND_SLAMS_DOWN)
+    )?;
+    println!(rt;
+        "Undertricks of lower contracts: {}",
+        runs::table(&tables::DOWN)
+    )?;
+    println!(rt; "Scores on a board: {}", runs::played())?;
+    println!(rt; "Vulnerability of a board: {}", runs::vulnerable())?;
+    println!(rt;
+        "Contracts and scores that do not exist: {}",
+        runs::refused()
+    )
 }
 
 fn comparisons(rt: &impl Print) -> io::Result<()> {
-    runs::imps().print(rt, "The IMP scale at every ten")?;
-    runs::compared().print(rt, "Comparisons, both ways round")?;
-    runs::constants().print(rt, "Constants of the ways of comparing")
+    println!(rt; "The IMP scale at every ten: {}", runs::imps())?;
+    println!(rt; "Comparisons, both ways round: {}", runs::compared())?;
+    println!(rt; "Constants of the ways of comparing: {}", runs::constants())
 }
 
 fn movements(rt: &impl Print) -> io::Result<()> {
-    walks::mitchell().print(rt, "Mitchell, walked table by table")?;
-    walks::skip_mitchell().print(rt, "Skip Mitchell, walked table by table")?;
-    walks::howell().print(rt, "Howell, seat by seat")?;
-    sizes::all().print(rt, "Sizes of movements")?;
-    sizes::fields().print(rt, "Sets, pairs and fields of movements")?;
-    piles::three_layers().print(rt, "Three layers over a Mitchell")?;
-    piles::refused().print(rt, "Layers made and refused")?;
-    piles::places().print(rt, "Places of the pairs in a Howell")?;
-    piles::boards().print(rt, "Boards of a set")
+    println!(rt; "Mitchell, walked table by table: {}", walks::mitchell())?;
+    println!(rt;
+        "Skip Mitchell, walked table by table: {}",
+        walks::skip_mitchell()
+    )?;
+    println!(rt; "Howell, seat by seat: {}", walks::howell())?;
+    println!(rt; "Sizes of movements: {}", sizes::all())?;
+    println!(rt; "Sets, pairs and fields of movements: {}", sizes::fields())?;
+    println!(rt; "Three layers over a Mitchell: {}", piles::three_layers())?;
+    println!(rt; "Layers made and refused: {}", piles::refused())?;
+    println!(rt; "Places of the pairs in a Howell: {}", piles::places())?;
+    println!(rt; "Boards of a set: {}", piles::boards())
 }
 
 fn main(rt: HostRuntime) -> io::Result<()> {

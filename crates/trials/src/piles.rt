@@ -1,11 +1,11 @@
 // Layers, one over the other, and what is said of a pair.
-use crate::tally::Tally;
 use crate::walks::{HOWELL, MOST_ASKED, occupied};
 use guide::Place;
 use layer::{ArrowSwitch, LayerRefused, MissingPair};
 use movement::{Howell, Mitchell};
-use plan::{BoardsPerSet, Movement, Side, are_equal};
+use plan::{Boards, BoardsPerSet, Field, Movement, Side, are_equal};
 use refusal::Refusal;
+use tally::{Tally, refused_with};
 
 /// Mitchell with five tables, rounds 1 to 5: pairs 2 and 9 are missing, and the arrow is switched from round 4 on.
 const PILE: [[Option<(u8, u8, u8)>; 5]; 5] = [
@@ -62,18 +62,15 @@ fn check_pile<M: Movement>(tally: &mut Tally, pile: &M) {
     tally.check(occupied(pile) == 16);
     tally.check(pile.tables() == 5 && pile.rounds() == 5 && pile.sets() == 5 && pile.pairs() == 10);
     for pair in 0..=MOST_ASKED {
-        let is_pair = pair > 0 && pair <= 10;
-        tally.check(pile.field(pair) == if is_pair { 1 } else { 0 });
+        let field = (1..=10).contains(&pair).then_some(1);
+        tally.check(pile.field(pair).map(Field::number) == field);
     }
 }
 
 /// The pile, and that the order in which the pairs were missed makes no difference.
 pub(crate) fn three_layers() -> Tally {
     let mut tally = Tally::default();
-    let Ok(one) = pile(2, 9) else {
-        return tally;
-    };
-    let Ok(other) = pile(9, 2) else {
+    let (Ok(one), Ok(other)) = (pile(2, 9), pile(9, 2)) else {
         return tally;
     };
     check_pile(&mut tally, &one);
@@ -99,53 +96,33 @@ pub(crate) fn refused() -> Tally {
     };
     for number in 0..=MOST_ASKED {
         tally.check(match MissingPair::new(below, number) {
-            Ok(_) => number >= 1 && number <= 8,
-            Err(e) => (number < 1 || number > 8) && is_back(&e, &below),
+            Ok(_) => (1..=8).contains(&number),
+            Err(e) => !(1..=8).contains(&number) && is_back(&e, &below),
         });
         tally.check(match ArrowSwitch::new(below, number) {
-            Ok(_) => number >= 2 && number <= 5,
-            Err(e) => (number < 2 || number > 5) && is_back(&e, &below),
+            Ok(_) => (2..=5).contains(&number),
+            Err(e) => !(2..=5).contains(&number) && is_back(&e, &below),
         });
     }
     tally
 }
 
-fn is_at<M: Movement>(m: &M, round: u8, pair: u8, expected: Place) -> bool {
-    match Place::find(m, round, pair) {
-        Some(place) => place == expected,
-        None => false,
-    }
-}
-
 // Both pairs at a table are found there, each with the other as opponents.
 fn check_table<M: Movement>(tally: &mut Tally, m: &M, round: u8, table: u8, seat: (u8, u8, u8)) {
     let (north_south, east_west, set) = seat;
-    let side = Side::NorthSouth;
-    let opponents = east_west;
-    tally.check(is_at(
-        m,
-        round,
-        north_south,
-        Place {
+    let sides = [
+        (Side::NorthSouth, north_south, east_west),
+        (Side::EastWest, east_west, north_south),
+    ];
+    for (side, pair, opponents) in sides.iter() {
+        let place = Place {
             table,
-            side,
-            opponents,
+            side: *side,
+            opponents: *opponents,
             set,
-        },
-    ));
-    let side = Side::EastWest;
-    let opponents = north_south;
-    tally.check(is_at(
-        m,
-        round,
-        east_west,
-        Place {
-            table,
-            side,
-            opponents,
-            set,
-        },
-    ));
+        };
+        tally.check(Place::find(m, round, *pair) == Some(place));
+    }
 }
 
 /// The place of each pair in each round of the Howell, and of pairs that sit out.
@@ -178,16 +155,16 @@ const BOARDS: [(u8, u8, u16, u16); 6] = [
 pub(crate) fn boards() -> Tally {
     let mut tally = Tally::default();
     for (per_set, set, first, last) in BOARDS.iter() {
-        tally.check(match BoardsPerSet::new(*per_set) {
-            Ok(boards) => boards.count() == *per_set && boards.of_set(*set) == (*first, *last),
-            Err(_) => false,
-        });
+        let expected = Boards {
+            first: *first,
+            last: *last,
+        };
+        tally.check(BoardsPerSet::try_from(*per_set).is_ok_and(|boards| {
+            boards.count() == *per_set && boards.of_set(*set) == expected
+        }));
     }
     for per_set in [0, 5, 255].iter() {
-        tally.check(match BoardsPerSet::new(*per_set) {
-            Ok(_) => false,
-            Err(refusal) => refusal.number() == 4,
-        });
+        tally.check(refused_with(BoardsPerSet::try_from(*per_set)) == Some(4));
     }
     tally
 }

@@ -1,37 +1,31 @@
 // Each table run against the library.
-use crate::boards::{NO_CONTRACTS, NO_SCORES, PLAYED, Played, VULNERABLE};
+use crate::boards::{NO_CONTRACTS, NO_SCORES, VULNERABLE};
 use crate::differences::{COMPARED, IMPS};
 use crate::tables::Row;
-use crate::tally::Tally;
-use comparison::{Comparison, Imps, Matchpoints, TotalPoints};
+use comparison::{Comparison, Constants, Imps, Matchpoints, TotalPoints};
 use contract::{Contract, Declarer, Denomination, Doubling, Vulnerability};
 use refusal::Refusal;
 use scoring::Score;
-
-const DOUBLINGS: [Doubling; 3] = [Doubling::Undoubled, Doubling::Doubled, Doubling::Redoubled];
-
-const DECLARERS: [Declarer; 4] = [
-    Declarer::North,
-    Declarer::East,
-    Declarer::South,
-    Declarer::West,
-];
+use tally::{PLAYED, Played, Tally, refused_with};
 
 /// The six figures of each row, with each of the four players as declarer.
 pub(crate) fn table(rows: &[Row]) -> Tally {
     let mut tally = Tally::default();
-    for row in rows {
-        let Row(level, denomination, tricks, figures) = *row;
-        for (k, expected) in figures.iter().enumerate() {
-            let doubling = DOUBLINGS[k % 3];
-            // nobody is vulnerable on board 1, both sides are on board 4
-            let board = if k < 3 { 1 } else { 4 };
-            for declarer in DECLARERS.iter() {
-                let found = scored(
-                    Contract::new(level, denomination, doubling, *declarer, tricks),
-                    board,
-                );
-                tally.check(found == Some(for_north_south(*declarer, *expected)));
+    for Row(level, denomination, tricks, figures) in rows {
+        // nobody is vulnerable on board 1, both sides are on board 4
+        for (board, figures) in [1, 4].iter().zip(figures.chunks(3)) {
+            for (doubling, expected) in Doubling::ALL.iter().zip(figures) {
+                for declarer in Declarer::ALL.iter() {
+                    let contract = Contract::new(
+                        *level,
+                        *denomination,
+                        *doubling,
+                        *declarer,
+                        *tricks,
+                    );
+                    let expected = for_north_south(*declarer, *expected);
+                    tally.check(scored(contract, *board) == Some(expected));
+                }
             }
         }
     }
@@ -39,10 +33,7 @@ pub(crate) fn table(rows: &[Row]) -> Tally {
 }
 
 fn scored(contract: Result<Contract, Refusal>, board: u8) -> Option<i16> {
-    match contract {
-        Ok(contract) => Some(Score::of_contract(contract, board).points()),
-        Err(_) => None,
-    }
+    Some(Score::of_contract(contract.ok()?, board).points())
 }
 
 fn for_north_south(declarer: Declarer, points: i16) -> i16 {
@@ -56,12 +47,8 @@ pub(crate) fn played() -> Tally {
     let mut tally = Tally::default();
     for played in PLAYED.iter() {
         let Played(level, denomination, doubling, declarer, tricks, board, expected) = *played;
-        tally.check(
-            scored(
-                Contract::new(level, denomination, doubling, declarer, tricks),
-                board,
-            ) == Some(expected),
-        );
+        let contract = Contract::new(level, denomination, doubling, declarer, tricks);
+        tally.check(scored(contract, board) == Some(expected));
     }
     tally
 }
@@ -84,10 +71,7 @@ pub(crate) fn refused() -> Tally {
             Declarer::North,
             *tricks,
         );
-        tally.check(match found {
-            Ok(_) => false,
-            Err(refusal) => refusal.number() == 13,
-        });
+        tally.check(refused_with(found) == Some(13));
     }
     for points in NO_SCORES.iter() {
         tally.check(Score::new(*points).is_none());
@@ -99,8 +83,8 @@ pub(crate) fn refused() -> Tally {
 pub(crate) fn imps() -> Tally {
     let mut tally = Tally::default();
     for (first, last, expected) in IMPS.iter() {
-        for tens in *first / 10..*last / 10 + 1 {
-            tally.check(Imps::step(tens.saturating_mul(10)) == *expected);
+        for difference in (*first..=*last).step_by(10) {
+            tally.check(Imps::step(difference) == *expected);
         }
     }
     tally
@@ -118,10 +102,7 @@ pub(crate) fn compared() -> Tally {
 
 // What the two win adds up to twice the tie value.
 fn both_ways<C: Comparison>(tally: &mut Tally, way: &C, own: i16, other: i16, expected: i32) {
-    let Some(own) = Score::new(own) else {
-        return tally.check(false);
-    };
-    let Some(other) = Score::new(other) else {
+    let (Some(own), Some(other)) = (Score::new(own), Score::new(other)) else {
         return tally.check(false);
     };
     let both = 2 * i32::from(way.constants().tie_value);
@@ -138,6 +119,11 @@ pub(crate) fn constants() -> Tally {
 }
 
 fn has<C: Comparison>(way: &C, tie_value: u16, lift: u32, scale: u8, code: u8) -> bool {
-    let found = way.constants();
-    found.tie_value == tie_value && found.lift == lift && found.scale == scale && found.code == code
+    way.constants()
+        == Constants {
+            tie_value,
+            lift,
+            scale,
+            code,
+        }
 }

@@ -1,25 +1,17 @@
 // How large a movement may be, and who is in which field.
-use crate::tally::Tally;
 use crate::walks::{EVEN, MOST_ASKED, ODD};
-use movement::{Howell, Mitchell, SkipMitchell};
-use plan::Movement;
-use refusal::Refusal;
+use movement::{Howell, Mitchell, Rotating, SkipMitchell, Skipping, Straight, Walk};
+use plan::{Field, Movement};
+use tally::{Tally, refused_with};
 
-// The number of the refusal, and 0 where there is none.
-fn number<T: Drop>(made: Result<T, Refusal>) -> u8 {
-    match made {
-        Ok(_) => 0,
-        Err(refusal) => refusal.number(),
-    }
-}
-
-fn expected(has_tables: bool, rounds: u8, most: u8) -> u8 {
+// The number of the refusal that is due: 1 for the tables, then 2 for the rounds.
+fn due(has_tables: bool, rounds: u8, most: u8) -> Option<u8> {
     if !has_tables {
-        1
-    } else if rounds == 0 || rounds > most {
-        2
+        Some(1)
+    } else if !(1..=most).contains(&rounds) {
+        Some(2)
     } else {
-        0
+        None
     }
 }
 
@@ -28,14 +20,12 @@ pub(crate) fn all() -> Tally {
     let mut tally = Tally::default();
     for tables in 0..=MOST_ASKED {
         for rounds in 0..=MOST_ASKED {
-            let odd = ODD.contains(&tables);
-            let even = EVEN.contains(&tables);
-            tally.check(number(Mitchell::new(tables, rounds)) == expected(odd, rounds, tables));
-            tally.check(
-                number(SkipMitchell::new(tables, rounds))
-                    == expected(even, rounds, tables.saturating_sub(1)),
-            );
-            tally.check(number(Howell::new(tables, rounds)) == expected(tables == 4, rounds, 7));
+            let mitchell = refused_with(Mitchell::new(tables, rounds));
+            tally.check(mitchell == due(ODD.contains(&tables), rounds, tables));
+            let skip = refused_with(SkipMitchell::new(tables, rounds));
+            tally.check(skip == due(EVEN.contains(&tables), rounds, tables.saturating_sub(1)));
+            let howell = refused_with(Howell::new(tables, rounds));
+            tally.check(howell == due(tables == 4, rounds, 7));
         }
     }
     tally
@@ -46,29 +36,30 @@ fn check_fields<M: Movement>(tally: &mut Tally, m: &M, sets: u8, first: u8, pair
     tally.check(m.sets() == sets);
     tally.check(m.pairs() == pairs);
     for pair in 0..=255 {
-        let field = if pair == 0 || pair > pairs {
-            0
+        let field = if !(1..=pairs).contains(&pair) {
+            None
         } else if pair > first {
-            2
+            Some(2)
         } else {
-            1
+            Some(1)
         };
-        tally.check(m.field(pair) == field);
+        tally.check(m.field(pair).map(Field::number) == field);
+    }
+}
+
+// As many sets as tables, and half of the pairs in each field.
+fn check_rotating<W: Walk>(tally: &mut Tally, sizes: &[u8]) {
+    for tables in sizes {
+        if let Ok(m) = Rotating::<W>::new(*tables, 1) {
+            check_fields(tally, &m, *tables, *tables, tables.saturating_mul(2));
+        }
     }
 }
 
 pub(crate) fn fields() -> Tally {
     let mut tally = Tally::default();
-    for tables in ODD.iter() {
-        if let Ok(m) = Mitchell::new(*tables, 1) {
-            check_fields(&mut tally, &m, *tables, *tables, tables.saturating_mul(2));
-        }
-    }
-    for tables in EVEN.iter() {
-        if let Ok(m) = SkipMitchell::new(*tables, 1) {
-            check_fields(&mut tally, &m, *tables, *tables, tables.saturating_mul(2));
-        }
-    }
+    check_rotating::<Straight>(&mut tally, &ODD);
+    check_rotating::<Skipping>(&mut tally, &EVEN);
     if let Ok(m) = Howell::new(4, 1) {
         check_fields(&mut tally, &m, 7, 8, 8);
     }

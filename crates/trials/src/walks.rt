@@ -1,7 +1,8 @@
 // The movements as the hall sees them: who walks where after a round, and what is passed on.
-use crate::tally::Tally;
 use movement::{Howell, Mitchell, SkipMitchell};
 use plan::Movement;
+use refusal::Refusal;
+use tally::Tally;
 
 pub(crate) const ODD: [u8; 7] = [3, 5, 7, 9, 11, 13, 15];
 
@@ -18,6 +19,9 @@ pub(crate) const HOWELL: [[(u8, u8, u8); 4]; 7] = [
     [(8, 7, 7), (2, 3, 5), (4, 6, 3), (1, 5, 6)],
 ];
 
+/// The largest number of a round or a table that is asked for: no movement has so many.
+pub(crate) const MOST_ASKED: u8 = 20;
+
 // The table that a pair walks to.
 fn up(tables: u8, table: u8) -> u8 {
     if table < tables { table + 1 } else { 1 }
@@ -28,91 +32,106 @@ fn down(tables: u8, table: u8) -> u8 {
     if table > 1 { table - 1 } else { tables }
 }
 
-// Each East-West pair walks up a table after a round, and once more after round `skip`.
-fn walk_guests<M: Movement>(tally: &mut Tally, m: &M, skip: u8) {
-    let tables = m.tables();
-    for start in 1..=tables {
-        let guests = tables.saturating_add(start);
+// Follows what starts at each table: after each round `next` says at which table it is, and `is_there` whether it is found there.
+fn follow<M: Movement, N: Fn(u8, u8) -> u8, F: Fn(u8, u8, (u8, u8, u8)) -> bool>(
+    tally: &mut Tally,
+    m: &M,
+    next: N,
+    is_there: F,
+)
+    requires next { N.IsAlwaysCallable next }
+    requires is_there { F.IsAlwaysCallable is_there }
+{
+    for start in 1..=m.tables() {
         let mut table = start;
         for round in 1..=m.rounds() {
-            tally.check(match m.seat(round, table) {
-                Some((north_south, east_west, _)) => north_south == table && east_west == guests,
-                None => false,
-            });
-            table = up(tables, table);
-            if round == skip {
-                table = up(tables, table);
-            }
+            let seat = m.seat(round, table);
+            tally.check(seat.is_some_and(|seat| is_there(start, table, seat)));
+            table = next(round, table);
         }
     }
 }
 
-// Each set is passed down a table after a round.
-fn pass_sets<M: Movement>(tally: &mut Tally, m: &M) {
+// Each East-West pair walks up a table after a round, and once more after round `skip`; each set is passed down a table.
+fn walk<M: Movement>(tally: &mut Tally, m: &M, skip: u8) {
     let tables = m.tables();
-    for set in 1..=tables {
-        let mut table = set;
-        for round in 1..=m.rounds() {
-            tally.check(match m.seat(round, table) {
-                Some((_, _, found)) => found == set,
-                None => false,
-            });
-            table = down(tables, table);
-        }
-    }
+    follow(
+        tally,
+        m,
+        |round, table| {
+            let table = up(tables, table);
+            if round == skip {
+                up(tables, table)
+            } else {
+                table
+            }
+        },
+        |start, table, (north_south, east_west, _)| {
+            north_south == table && east_west == tables.saturating_add(start)
+        },
+    );
+    follow(
+        tally,
+        m,
+        |_, table| down(tables, table),
+        |start, _, (_, _, set)| set == start,
+    );
 }
 
-/// The largest number of a round or a table that is asked for: no movement has so many.
-pub(crate) const MOST_ASKED: u8 = 20;
+fn occupied_in<M: Movement>(m: &M, round: u8) -> usize {
+    (0..=MOST_ASKED)
+        .filter(|table| m.seat(round, *table).is_some())
+        .count()
+}
 
 /// How many tables are occupied, over all the rounds and tables that are asked for.
-pub(crate) fn occupied<M: Movement>(m: &M) -> u32 {
-    let mut count: u32 = 0;
-    for round in 0..=MOST_ASKED {
-        for table in 0..=MOST_ASKED {
-            if m.seat(round, table).is_some() {
-                count = count.saturating_add(1);
-            }
-        }
-    }
-    count
+pub(crate) fn occupied<M: Movement>(m: &M) -> usize {
+    (0..=MOST_ASKED)
+        .map(|round| occupied_in(m, round))
+        .fold(0, usize::saturating_add)
 }
 
 // Every table of every round is occupied, and none besides.
 fn is_full<M: Movement>(m: &M, tables: u8, rounds: u8) -> bool {
     m.tables() == tables
         && m.rounds() == rounds
-        && occupied(m) == u32::from(tables) * u32::from(rounds)
+        && occupied(m) == usize::from(tables) * usize::from(rounds)
+}
+
+// The movements with these numbers of tables and with each number of rounds that is allowed.
+fn walked<
+    M: Movement + Drop,
+    R: Fn(u8) -> u8,
+    N: Fn(u8, u8) -> Result<M, Refusal>,
+    S: Fn(u8) -> u8,
+>(sizes: &[u8], most_rounds: R, new: N, skip: S) -> Tally
+    requires most_rounds { R.IsAlwaysCallable most_rounds }
+    requires new { N.IsAlwaysCallable new }
+    requires skip { S.IsAlwaysCallable skip }
+{
+    let mut tally = Tally::default();
+    for tables in sizes {
+        for rounds in 1..=most_rounds(*tables) {
+            if let Ok(m) = new(*tables, rounds) {
+                walk(&mut tally, &m, skip(*tables));
+                tally.check(is_full(&m, *tables, rounds));
+            }
+        }
+    }
+    tally
 }
 
 pub(crate) fn mitchell() -> Tally {
-    let mut tally = Tally::default();
-    for tables in ODD.iter() {
-        for rounds in 1..=*tables {
-            let Ok(m) = Mitchell::new(*tables, rounds) else {
-                continue;
-            };
-            walk_guests(&mut tally, &m, 0);
-            pass_sets(&mut tally, &m);
-            tally.check(is_full(&m, *tables, rounds));
-        }
-    }
-    tally
+    walked(&ODD, |tables| tables, Mitchell::new, |_| 0)
 }
 
 pub(crate) fn skip_mitchell() -> Tally {
-    let mut tally = Tally::default();
-    for tables in EVEN.iter() {
-        for rounds in 1..*tables {
-            let Ok(m) = SkipMitchell::new(*tables, rounds) else {
-                continue;
-            };
-            walk_guests(&mut tally, &m, *tables / 2);
-            pass_sets(&mut tally, &m);
-            tally.check(is_full(&m, *tables, rounds));
-        }
-    }
-    tally
+    walked(
+        &EVEN,
+        |tables| tables.saturating_sub(1),
+        SkipMitchell::new,
+        |tables| tables / 2,
+    )
 }
 
 pub(crate) fn howell() -> Tally {

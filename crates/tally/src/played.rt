@@ -6,17 +6,17 @@ use contract::{Declarer, Denomination, Doubling};
 
 /// A contract, the tricks, the board, and North-South's score.
 #[derive(Clone, Copy)]
-pub(crate) struct Played(
-    pub(crate) u8,
-    pub(crate) Denomination,
-    pub(crate) Doubling,
-    pub(crate) Declarer,
-    pub(crate) u8,
-    pub(crate) u8,
-    pub(crate) i16,
+pub struct Played(
+    pub u8,
+    pub Denomination,
+    pub Doubling,
+    pub Declarer,
+    pub u8,
+    pub u8,
+    pub i16,
 );
 
-pub(crate) const PLAYED: [Played; 15] = [
+pub const PLAYED: [Played; 15] = [
     Played(1, NoTrump, Redoubled, North, 13, 4, 3160),
     Played(7, NoTrump, Redoubled, North, 0, 4, -7600),
     Played(2, Hearts, Doubled, North, 8, 1, 470),
