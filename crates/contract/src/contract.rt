@@ -79,7 +79,7 @@ impl Contract {
         ensures made { IfOk result (λ c. (c.level ≡ level) × (c.denomination ≡ denomination) × (c.doubling ≡ doubling) × (c.declarer ≡ declarer) × (c.tricks ≡ tricks)) }
         ensures refused { IfErr result (λ e. (e ≡ ReturnOutOfRange) × ((1 ≤ level) × (level ≤ 7) × (tricks ≤ 13) → ⊥)) }
     {
-        if level < 1 || level > 7 || tricks > 13 {
+        if !(1..=7).contains(&level) || tricks > 13 {
             return Err(Refusal::ReturnOutOfRange);
         }
         Ok(Contract {

@@ -2,7 +2,9 @@
 
 #![tactic(auto)]
 
-ghost use Rattle.std.specs.Prelude.{◌≡◌, ◌++◌, Some, codes, decimal};
+ghost use Rattle.std.specs.Option.{option_map};
+ghost use Rattle.std.specs.Prelude.{◌≡◌, ◌↔◌, ◌++◌, IsTrue, Some, codes, decimal};
+ghost use Rattle.std.specs.Result.{result_err};
 ghost use Rattle.refusal.specs.Numbers.{number_of, meaning_of};
 
 use std::error::Error;
@@ -56,6 +58,17 @@ impl Refusal {
         ensures distinct { (other : Refusal) → number_of other ≡ result → other ≡ self }
     {
         self as u8
+    }
+
+    /// Whether a call was refused with just this, and so with just this number.
+    pub fn refuses<T>(self, answer: &Result<T, Refusal>) -> bool
+        ensures same { IsTrue result ↔ (result_err answer.now ≡ Some self) }
+        ensures number { IsTrue result ↔ (option_map number_of (result_err answer.now) ≡ Some (number_of self)) }
+    {
+        match answer {
+            Ok(_) => false,
+            Err(refusal) => *refusal == self,
+        }
     }
 
     /// The refusal in words.

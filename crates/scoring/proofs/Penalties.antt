@@ -29,3 +29,5 @@ penalty_most v d (suc n) h = omega (arith, penalty_steps v d n)
 
 pub penalty_next : (v : Bool) (d : Doubling) (n : ℕ) → penalty v d (n + 1) ≡ penalty v d n + undertrick v d (n + 1)
 penalty_next v d n = rw add-one
+
+pub ruleset penalties = (undertrick_most, penalty_most, penalty_next)

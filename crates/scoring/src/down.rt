@@ -23,6 +23,7 @@ fn undertrick(doubling: Doubling, vulnerable: bool, place: u8) -> u16
 }
 
 // All of them together. A helper: a contract goes down by 13 at most.
+#[tactic(auto, using(crate::proofs::Penalties::penalties))]
 pub(crate) fn penalty(doubling: Doubling, vulnerable: bool, undertricks: u8) -> u16
     requires { undertricks ≤ 13 }
     ensures { result ≡ penalty vulnerable doubling undertricks }

@@ -16,14 +16,14 @@ impl Score {
         Score { points: 0 }
     }
 
-    // An option and no `TryFrom`, since no refusal stands for a score out of range.
+    // An option and no `TryFrom`, whose error could say no more.
     pub fn new(points: i16) -> Option<Score>
         ensures { MatchOption result (ScoreRange points → ⊥) (λ s. s.points ≡ points) }
     {
-        if points < -7600 || points > 7600 {
-            None
-        } else {
+        if (-7600..=7600).contains(&points) {
             Some(Score { points })
+        } else {
+            None
         }
     }
 
