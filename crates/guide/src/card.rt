@@ -30,7 +30,7 @@ impl<'m, M: Movement> GuideCard<'m, M> {
         }
     }
 
-    // The number of the pair's field, and 0 where there is no such pair.
+    // The number that is printed as the pair's field: 0 where there is no such pair.
     fn field(&self) -> u8
         ensures { result ≡ (M.Movement.plan self.now.movement.now).field self.now.pair }
     {

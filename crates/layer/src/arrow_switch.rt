@@ -1,5 +1,5 @@
 // The last rounds with the sides exchanged, so that all pairs can be ranked in one field.
-ghost use Rattle.std.specs.Prelude.{◌≡◌, IfOk, IfErr};
+ghost use Rattle.std.specs.Prelude.{◌≡◌, IfOk, IfErr, None};
 ghost use Rattle.std.specs.Option.{option_map};
 ghost use Rattle.std.specs.Result.{result_err};
 ghost use Rattle.refusal.specs.Questions.{first_no};
@@ -15,6 +15,7 @@ use plan::{Field, Movement, Sizes, one_field};
 pub struct ArrowSwitch<M: Movement> {
     below: M,
     from: u8,
+    ghost in_range: { first_no (arrow_switch_range (M.Movement.plan below) from) ≡ None },
 }
 
 impl<M: Movement> ArrowSwitch<M> {

@@ -1,5 +1,5 @@
 // A pair that does not come.
-ghost use Rattle.std.specs.Prelude.{◌≡◌, IfOk, IfErr};
+ghost use Rattle.std.specs.Prelude.{◌≡◌, IfOk, IfErr, None};
 ghost use Rattle.std.specs.Option.{option_map};
 ghost use Rattle.std.specs.Result.{result_err};
 ghost use Rattle.refusal.specs.Questions.{first_no};
@@ -15,6 +15,7 @@ use plan::{Field, Movement, Sizes, is_within};
 pub struct MissingPair<M: Movement> {
     below: M,
     pair: u8,
+    ghost in_range: { first_no (missing_pair_range (M.Movement.plan below) pair) ≡ None },
 }
 
 impl<M: Movement> MissingPair<M> {

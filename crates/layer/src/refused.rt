@@ -23,7 +23,7 @@ impl<M: Drop> From<LayerRefused<M>> for Refusal {
     }
 }
 
-/// The movement again where the number of a layer is in range, and otherwise a refusal with it.
+/// Gives the movement on if the number of the layer is in range, and otherwise gives it back with the refusal.
 pub(crate) fn accept<M>(movement: M, in_range: bool) -> Result<M, LayerRefused<M>>
     ensures asked { option_map (λ e. e.refusal) (result_err result) ≡ first_no ((in_range, LayerOutOfRange) ∷ []) }
     ensures made { IfOk result (λ m. m ≡ movement) }

@@ -1,4 +1,4 @@
-// Numbers around a circle of tables.
+// Numbers around a circle of tables. Each function says that its answer is at most the size, which its callers need for their sums.
 ghost use Rattle.std.specs.Prelude.{◌≡◌, ◌+◌, ◌-◌, ◌%◌, ◌<◌, ◌≤◌, pos, ◌-ℤ◌};
 ghost use Rattle.plan.specs.Laws.{In};
 ghost use Rattle.plan.specs.Movements.{wrap};

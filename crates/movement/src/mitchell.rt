@@ -19,7 +19,7 @@ pub type Mitchell = Rotating<Straight>;
 pub struct Straight;
 
 impl Walk for Straight {
-    ghost sizes = { mitchell_sizes };
+    ghost questions = { mitchell_sizes };
 
     ghost plan = { mitchell };
 

@@ -1,5 +1,5 @@
 // The movements in which North-South sit still, East-West go up and the sets go down.
-ghost use Rattle.std.specs.Prelude.{◌≡◌, IfOk, None, ⊤};
+ghost use Rattle.std.specs.Prelude.{◌≡◌, IfOk, IsTrue, is_none, ⊤};
 ghost use Rattle.std.specs.Result.{result_err};
 ghost use Rattle.refusal.specs.Questions.{first_no};
 ghost use Rattle.std.proofs.Common.{sym, subst};
@@ -19,7 +19,7 @@ pub struct Rotating<W: Walk> {
     tables: u8,
     rounds: u8,
     walk: PhantomData<W>,
-    ghost asked: { first_no (W.sizes tables rounds) ≡ None },
+    ghost asked: { IsTrue (is_none (first_no (W.questions tables rounds))) },
 }
 
 // By hand: where a struct is generic, no `Clone` can be derived over a ghost field.
@@ -34,9 +34,12 @@ impl<W: Walk> Clone for Rotating<W> {
 }
 
 impl<W: Walk> Rotating<W> {
+    ghost use Rattle.movement.specs.Alone.{IsAlone};
+
     pub fn new(tables: u8, rounds: u8) -> Result<Rotating<W>, Refusal>
-        ensures asked { result_err result ≡ first_no (W.sizes tables rounds) }
+        ensures asked { result_err result ≡ first_no (W.questions tables rounds) }
         ensures made { IfOk result (λ m. (m.tables ≡ tables) × (m.rounds ≡ rounds)) }
+        ensures alone { IfOk result IsAlone }
     {
         W::check(tables, rounds)?;
         Ok(Rotating {

@@ -19,7 +19,7 @@ pub type SkipMitchell = Rotating<Skipping>;
 pub struct Skipping;
 
 impl Walk for Skipping {
-    ghost sizes = { skip_mitchell_sizes };
+    ghost questions = { skip_mitchell_sizes };
 
     ghost plan = { skip_mitchell };
 

@@ -1,5 +1,5 @@
 // How the East-West pairs walk while North-South sit still.
-ghost use Rattle.std.specs.Prelude.{◌≡◌, ℕ, Bool, List, None};
+ghost use Rattle.std.specs.Prelude.{◌≡◌, ℕ, Bool, List, IsTrue, is_none};
 ghost use Rattle.std.specs.Result.{result_err};
 ghost use Rattle.refusal.specs.declared.Refusal.{Refusal};
 ghost use Rattle.refusal.specs.Questions.{first_no};
@@ -13,7 +13,7 @@ use refusal::Refusal;
 /// meets a pair or a set again.
 pub trait Walk {
     // What is asked of a number of tables and rounds.
-    ghost sizes: { ℕ → ℕ → List (Bool × Refusal) };
+    ghost questions: { ℕ → ℕ → List (Bool × Refusal) };
 
     // The plan at a number of tables and rounds.
     ghost plan: { ℕ → ℕ → Plan };
@@ -21,9 +21,9 @@ pub trait Walk {
     // With so many tables, by how many the pairs have gone up in a round.
     ghost gone: { ℕ → ℕ → ℕ };
 
-    /// Refuses tables and rounds for which the walk is not made.
+    /// Refuses tables and rounds for which the walk is not made: each walk has a rule of its own.
     fn check(tables: u8, rounds: u8) -> Result<(), Refusal>
-        ensures { result_err result ≡ first_no (sizes tables rounds) };
+        ensures { result_err result ≡ first_no (questions tables rounds) };
 
     /// By how many tables the pairs have gone up in a round.
     fn gone(tables: u8, round: u8) -> u8
@@ -33,5 +33,5 @@ pub trait Walk {
     ghost rotates: { (tables rounds : ℕ) → plan tables rounds ≡ rotating tables rounds (gone tables) };
 
     // They go so far that nobody meets a pair or a set again.
-    ghost turns: { (tables rounds : ℕ) → first_no (sizes tables rounds) ≡ None → Turns tables rounds (gone tables) };
+    ghost turns: { (tables rounds : ℕ) → IsTrue (is_none (first_no (questions tables rounds))) → Turns tables rounds (gone tables) };
 }

@@ -7,8 +7,8 @@ pub record Turns (tables rounds : ℕ) (gone : ℕ → ℕ) : Type 0 where
   pub rounds_in_range : In tables rounds
   -- less than a whole turn
   pub less : (r : ℕ) → In rounds r → gone r < tables
-  -- never twice as far
+  -- never as far in two rounds
   pub further : (r r' : ℕ) → In rounds r → In rounds r' → gone r ≡ gone r' → r ≡ r'
-  -- towards the sets, which come the other way, never twice as far, even by a whole turn
+  -- they and the sets walk towards each other: never have they come as close in two rounds, by a whole turn more or not
   pub closer : (r r' : ℕ) → In rounds r → In rounds r' → r + gone r ≡ r' + gone r' → r ≡ r'
   pub no_turn : (r r' : ℕ) → In rounds r → In rounds r' → r + gone r ≡ r' + gone r' + tables → ⊥

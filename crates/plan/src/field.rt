@@ -5,17 +5,14 @@ ghost use Rattle.plan.specs.Field.{number_of_field};
 /// Pairs of one field are ranked against each other.
 #[derive(Clone, Copy, PartialEq, Eq, Debug)]
 pub enum Field {
-    One,
-    Two,
+    One = 1,
+    Two = 2,
 }
 
 impl Field {
     pub fn number(self) -> u8
         ensures { result ≡ number_of_field self }
     {
-        match self {
-            Field::One => 1,
-            Field::Two => 2,
-        }
+        self as u8
     }
 }

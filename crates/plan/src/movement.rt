@@ -24,6 +24,7 @@ pub trait Movement {
 
     /// The North-South pair, the East-West pair and the set of boards, or nothing where the table is empty or there is no
     /// such round or table.
+    // A tuple, which callers take apart or compare whole: no field of it is read by itself.
     fn seat(&self, round: u8, table: u8) -> Option<(u8, u8, u8)>
         ensures { result ≡ (plan self.now).seat round table };
 
