@@ -7,54 +7,44 @@ mod board;
 mod cards;
 mod tables;
 
+use contract::Declarer::{East, North, South, West};
+use contract::Denomination::{Diamonds, Hearts, Spades};
+use contract::Doubling::{Doubled, Redoubled, Undoubled};
 use contract::{Contract, Declarer, Denomination, Doubling, Vulnerability};
 use plan::BoardsPerSet;
 use refusal::Refusal;
 use scoring::Score;
+use std::alloc::Global;
 use std::io;
 
 const BOARD: u8 = 7;
 
-// What came in from the tables; `None` is a board that was passed out.
-fn results() -> Result<[Option<Contract>; 6], Refusal> {
-    Ok([
-        Some(Contract::new(
-            4,
-            Denomination::Spades,
-            Doubling::Undoubled,
-            Declarer::North,
-            11,
-        )?),
-        Some(Contract::new(
-            6,
-            Denomination::Spades,
-            Doubling::Undoubled,
-            Declarer::South,
-            12,
-        )?),
-        Some(Contract::new(
-            5,
-            Denomination::Diamonds,
-            Doubling::Doubled,
-            Declarer::West,
-            8,
-        )?),
-        Some(Contract::new(
-            2,
-            Denomination::Hearts,
-            Doubling::Redoubled,
-            Declarer::East,
-            9,
-        )?),
-        None,
-        Some(Contract::new(
-            4,
-            Denomination::Spades,
-            Doubling::Undoubled,
-            Declarer::South,
-            11,
-        )?),
-    ])
+/// Level, denomination, doubling, declarer and tricks.
+type Played = (u8, Denomination, Doubling, Declarer, u8);
+
+/// What came in from the tables; `None` is a board that was passed out.
+const PLAYED: [Option<Played>; 6] = [
+    Some((4, Spades, Undoubled, North, 11)),
+    Some((6, Spades, Undoubled, South, 12)),
+    Some((5, Diamonds, Doubled, West, 8)),
+    Some((2, Hearts, Redoubled, East, 9)),
+    None,
+    Some((4, Spades, Undoubled, South, 11)),
+];
+
+fn contract(played: Option<Played>) -> Result<Option<Contract>, Refusal> {
+    let Some((level, denomination, doubling, declarer, tricks)) = played else {
+        return Ok(None);
+    };
+    let contract = Contract::new(level, denomination, doubling, declarer, tricks)?;
+    Ok(Some(contract))
+}
+
+fn results(alloc: Global) -> anyhow::Result<Vec<Option<Contract>>> {
+    PLAYED
+        .iter()
+        .map(|played| -> anyhow::Result<Option<Contract>> { Ok(contract(*played)?) })
+        .try_collect(alloc)
 }
 
 fn print_board(rt: &impl Print, results: &[Option<Contract>]) -> io::Result<()> {
@@ -70,8 +60,8 @@ fn print_board(rt: &impl Print, results: &[Option<Contract>]) -> io::Result<()> 
 fn run(rt: &HostRuntime) -> anyhow::Result<()> {
     println!(rt; "{}", cards::EVENT)?;
     cards::print_cards(rt, &cards::event()?, BoardsPerSet::try_from(cards::BOARDS)?)?;
-    let results = results()?;
-    print_board(rt, &results)?;
+    let results = results(rt.alloc())?;
+    print_board(rt, results.as_slice())?;
     let scores: Vec<Score> = results
         .iter()
         .map(|played| board::score(BOARD, *played))

@@ -19,7 +19,7 @@ struct Won {
 }
 
 impl Won {
-    fn from(own: Score, other: Score) -> Won {
+    fn between(own: Score, other: Score) -> Won {
         Won {
             matchpoints: Matchpoints.compare(own, other).0,
             imps: Imps.compare(own, other).0,
@@ -27,7 +27,7 @@ impl Won {
         }
     }
 
-    fn and(self, more: Won) -> Won {
+    fn saturating_add(self, more: Won) -> Won {
         Won {
             matchpoints: self.matchpoints.saturating_add(more.matchpoints),
             imps: self.imps.saturating_add(more.imps),
@@ -57,13 +57,14 @@ pub(crate) fn print_comparisons(rt: &impl Print, scores: &[Score]) -> io::Result
     Ok(())
 }
 
+// A loop, since one pass prints what is won from each of the others and adds it up; a chain would go over them twice.
 fn print_table(rt: &impl Print, scores: &[Score], table: usize, own: Score) -> io::Result<()> {
     let mut all = Won::default();
     for (opponent, other) in scores.iter().enumerate() {
         if opponent != table {
-            let won = Won::from(own, *other);
+            let won = Won::between(own, *other);
             println!(rt; "  from table {}: {won}", opponent + 1)?;
-            all = all.and(won);
+            all = all.saturating_add(won);
         }
     }
     println!(rt; "  in all: {all}")

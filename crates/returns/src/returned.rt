@@ -29,6 +29,7 @@ pub enum Return {
 
 impl Return {
     /// Refused unless the level is 1 to 7, the tricks are at most 13 and the group is at most 3.
+    // It takes the numbers and no `Contract`, which would ask its caller to have made one.
     pub fn scored(
         level: u8,
         denomination: Denomination,

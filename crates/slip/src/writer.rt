@@ -14,7 +14,8 @@ use contract::Contract;
 use refusal::Refusal;
 use returns::{Average, Group, Return};
 
-/// A slip as it is put together. The longest, as `7NXX N 13 G3`, has twelve bytes.
+/// A slip as it is put together. The longest, as `7NXX N 13 G3`, has twelve bytes. The parts are pushed, since nothing says of a
+/// `write!` that it succeeds where there is room.
 type Slip = ArrayString<12>;
 
 #[tactic(auto, using(crate::proofs::Lengths::lengths))]

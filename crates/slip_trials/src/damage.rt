@@ -1,19 +1,14 @@
 // Slips that are damaged, and what reading them must answer.
 use crate::not_slips::NOT_SLIPS;
-use crate::slips::{self, DAMAGED};
+use crate::slips::{DAMAGED, SLIPS};
 use returns::Return;
 use std::alloc::{AllocError, Global};
 use tally::{Tally, refused_with};
 
-// What the tables say of these bytes: a return, or nothing where they are no slip.
+// What the table says of these bytes: a return, or nothing where they are no slip.
 fn expected(bytes: &[u8]) -> Option<Return> {
-    let mut found = None;
-    slips::each(|slip, returned| {
-        if slip.as_bytes() == bytes {
-            found = returned;
-        }
-    });
-    found
+    let (_, said) = SLIPS.iter().find(|(slip, _)| slip.as_bytes() == bytes)?;
+    said.returned()
 }
 
 /// What came of slips that are slips again after the damage, and of those that are not.
@@ -78,7 +73,7 @@ pub(crate) fn not_slips() -> Tally {
     tally
 }
 
-/// Each slip of the tables, with a hundred thousand times each of some bytes behind it.
+/// Each slip of the table, with a hundred thousand times each of some bytes behind it.
 pub(crate) fn long(alloc: Global) -> Result<Tally, AllocError> {
     let mut tally = Tally::default();
     for slip in DAMAGED.iter() {

@@ -1,5 +1,5 @@
 // Returns: which there are, what they score, and their slips.
-use crate::slips;
+use crate::slips::SLIPS;
 use contract::{Declarer, Denomination, Doubling};
 use returns::{Average, Return};
 use tally::{PLAYED, Played, Tally, refused_with};
@@ -69,21 +69,24 @@ fn points(returned: Option<Return>, board: u8) -> Option<i16> {
     Some(returned?.score(board)?.points())
 }
 
+// From there on every byte is as it was.
+fn check_untouched(tally: &mut Tally, out: &[u8], from: usize) {
+    for byte in out.iter().skip(from) {
+        tally.check(*byte == UNTOUCHED);
+    }
+}
+
 // The slip stands first in the output, and behind it what stood there before.
 fn check_written(tally: &mut Tally, returned: Return, slip: &[u8], out: &mut [u8]) {
     let n = slip.len();
     tally.check(slip::write(returned, out).ok() == Some(n));
     tally.check(out.starts_with(slip));
-    for byte in out.iter().skip(n) {
-        tally.check(*byte == UNTOUCHED);
-    }
+    check_untouched(tally, out, n);
 }
 
 fn check_too_short(tally: &mut Tally, returned: Return, out: &mut [u8]) {
     tally.check(refused_with(slip::write(returned, out)) == Some(16));
-    for byte in out.iter() {
-        tally.check(*byte == UNTOUCHED);
-    }
+    check_untouched(tally, out, 0);
 }
 
 // Written to an output that is longer and to one that fits, refused by every shorter one, and read.
@@ -103,10 +106,12 @@ fn check_slip(tally: &mut Tally, returned: Option<Return>, slip: &[u8]) {
     tally.check(slip::read(slip).ok() == Some(returned));
 }
 
-/// Every slip of the tables.
+/// Every slip of the table.
 pub(crate) fn slips() -> Tally {
     let mut tally = Tally::default();
-    slips::each(|slip, returned| check_slip(&mut tally, returned, slip.as_bytes()));
+    for (slip, said) in SLIPS.iter() {
+        check_slip(&mut tally, said.returned(), slip.as_bytes());
+    }
     tally
 }
 

@@ -4,7 +4,7 @@ use contract::Denomination::{Clubs, Diamonds, Hearts, NoTrump, Spades};
 use contract::Doubling::{Doubled, Redoubled, Undoubled};
 use contract::{Declarer, Denomination, Doubling};
 
-/// A contract, the tricks, the board, and North-South's score.
+/// A contract, the tricks, the board, and North-South's score. By position, so that a row of a table is one line.
 #[derive(Clone, Copy)]
 pub struct Played(
     pub u8,

@@ -1,5 +1,5 @@
 // Layers, one over the other, and what is said of a pair.
-use crate::walks::{HOWELL, MOST_ASKED, occupied};
+use crate::walks::{HOWELL, MOST_ASKED, check_seats, occupied};
 use guide::Place;
 use layer::{ArrowSwitch, LayerRefused, MissingPair};
 use movement::{Howell, Mitchell};
@@ -54,15 +54,12 @@ fn pile(first: u8, last: u8) -> Result<Pile, Refusal> {
 }
 
 fn check_pile<M: Movement>(tally: &mut Tally, pile: &M) {
-    for (round, seats) in (1..=5).zip(PILE.iter()) {
-        for (table, seat) in (1..=5).zip(seats.iter()) {
-            tally.check(pile.seat(round, table) == *seat);
-        }
-    }
+    check_seats(tally, pile, &PILE);
     tally.check(occupied(pile) == 16);
     tally.check(pile.tables() == 5 && pile.rounds() == 5 && pile.sets() == 5 && pile.pairs() == 10);
     for pair in 0..=MOST_ASKED {
         let field = (1..=10).contains(&pair).then_some(1);
+        // by its number, as it stands on a card
         tally.check(pile.field(pair).map(Field::number) == field);
     }
 }
@@ -131,9 +128,12 @@ pub(crate) fn places() -> Tally {
     let Ok(m) = Howell::new(4, 7) else {
         return tally;
     };
+    // not by `check_seats`, since each seat is looked up from both of its pairs
     for (round, seats) in (1..=7).zip(HOWELL.iter()) {
         for (table, seat) in (1..=4).zip(seats.iter()) {
-            check_table(&mut tally, &m, round, table, *seat);
+            if let Some(seat) = seat {
+                check_table(&mut tally, &m, round, table, *seat);
+            }
         }
         tally.check(Place::find(&m, round, 0).is_none());
         tally.check(Place::find(&m, round, 9).is_none());

@@ -110,20 +110,24 @@ fn both_ways<C: Comparison>(tally: &mut Tally, way: &C, own: i16, other: i16, ex
     tally.check(way.compare(other, own).0 == both.saturating_sub(expected));
 }
 
+/// The constants of the three ways, in the order of `Constants`.
+const CONSTANTS: [(u16, u32, u8, u8); 3] = [(1, 1, 50, 1), (0, 10, 1, 2), (0, 500, 1, 3)];
+
 pub(crate) fn constants() -> Tally {
     let mut tally = Tally::default();
-    tally.check(has(&Matchpoints, 1, 1, 50, 1));
-    tally.check(has(&Imps, 0, 10, 1, 2));
-    tally.check(has(&TotalPoints, 0, 500, 1, 3));
+    let found = [
+        Matchpoints.constants(),
+        Imps.constants(),
+        TotalPoints.constants(),
+    ];
+    for (found, (tie_value, lift, scale, code)) in found.iter().zip(CONSTANTS.iter()) {
+        let expected = Constants {
+            tie_value: *tie_value,
+            lift: *lift,
+            scale: *scale,
+            code: *code,
+        };
+        tally.check(*found == expected);
+    }
     tally
-}
-
-fn has<C: Comparison>(way: &C, tie_value: u16, lift: u32, scale: u8, code: u8) -> bool {
-    way.constants()
-        == Constants {
-            tie_value,
-            lift,
-            scale,
-            code,
-        }
 }

@@ -43,6 +43,7 @@ fn check_fields<M: Movement>(tally: &mut Tally, m: &M, sets: u8, first: u8, pair
         } else {
             Some(1)
         };
+        // by its number, as it stands on a card
         tally.check(m.field(pair).map(Field::number) == field);
     }
 }

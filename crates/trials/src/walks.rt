@@ -1,7 +1,6 @@
 // The movements as the hall sees them: who walks where after a round, and what is passed on.
-use movement::{Howell, Mitchell, SkipMitchell};
+use movement::{Howell, Rotating, Skipping, Straight, Walk};
 use plan::Movement;
-use refusal::Refusal;
 use tally::Tally;
 
 pub(crate) const ODD: [u8; 7] = [3, 5, 7, 9, 11, 13, 15];
@@ -9,14 +8,49 @@ pub(crate) const ODD: [u8; 7] = [3, 5, 7, 9, 11, 13, 15];
 pub(crate) const EVEN: [u8; 7] = [4, 6, 8, 10, 12, 14, 16];
 
 /// Rounds 1 to 7 of the Howell, tables 1 to 4: North-South pair, East-West pair, set.
-pub(crate) const HOWELL: [[(u8, u8, u8); 4]; 7] = [
-    [(8, 1, 1), (3, 4, 6), (5, 7, 4), (2, 6, 7)],
-    [(8, 2, 2), (4, 5, 7), (6, 1, 5), (3, 7, 1)],
-    [(8, 3, 3), (5, 6, 1), (7, 2, 6), (4, 1, 2)],
-    [(8, 4, 4), (6, 7, 2), (1, 3, 7), (5, 2, 3)],
-    [(8, 5, 5), (7, 1, 3), (2, 4, 1), (6, 3, 4)],
-    [(8, 6, 6), (1, 2, 4), (3, 5, 2), (7, 4, 5)],
-    [(8, 7, 7), (2, 3, 5), (4, 6, 3), (1, 5, 6)],
+pub(crate) const HOWELL: [[Option<(u8, u8, u8)>; 4]; 7] = [
+    [
+        Some((8, 1, 1)),
+        Some((3, 4, 6)),
+        Some((5, 7, 4)),
+        Some((2, 6, 7)),
+    ],
+    [
+        Some((8, 2, 2)),
+        Some((4, 5, 7)),
+        Some((6, 1, 5)),
+        Some((3, 7, 1)),
+    ],
+    [
+        Some((8, 3, 3)),
+        Some((5, 6, 1)),
+        Some((7, 2, 6)),
+        Some((4, 1, 2)),
+    ],
+    [
+        Some((8, 4, 4)),
+        Some((6, 7, 2)),
+        Some((1, 3, 7)),
+        Some((5, 2, 3)),
+    ],
+    [
+        Some((8, 5, 5)),
+        Some((7, 1, 3)),
+        Some((2, 4, 1)),
+        Some((6, 3, 4)),
+    ],
+    [
+        Some((8, 6, 6)),
+        Some((1, 2, 4)),
+        Some((3, 5, 2)),
+        Some((7, 4, 5)),
+    ],
+    [
+        Some((8, 7, 7)),
+        Some((2, 3, 5)),
+        Some((4, 6, 3)),
+        Some((1, 5, 6)),
+    ],
 ];
 
 /// The largest number of a round or a table that is asked for: no movement has so many.
@@ -52,15 +86,16 @@ fn follow<M: Movement, N: Fn(u8, u8) -> u8, F: Fn(u8, u8, (u8, u8, u8)) -> bool>
     }
 }
 
-// Each East-West pair walks up a table after a round, and once more after round `skip`; each set is passed down a table.
-fn walk<M: Movement>(tally: &mut Tally, m: &M, skip: u8) {
+// Each East-West pair walks up a table after a round, and once more after round `skip`, if there is one. Each set is passed down a
+// table.
+fn walk<M: Movement>(tally: &mut Tally, m: &M, skip: Option<u8>) {
     let tables = m.tables();
     follow(
         tally,
         m,
         |round, table| {
             let table = up(tables, table);
-            if round == skip {
+            if skip == Some(round) {
                 up(tables, table)
             } else {
                 table
@@ -99,20 +134,18 @@ fn is_full<M: Movement>(m: &M, tables: u8, rounds: u8) -> bool {
 }
 
 // The movements with these numbers of tables and with each number of rounds that is allowed.
-fn walked<
-    M: Movement + Drop,
-    R: Fn(u8) -> u8,
-    N: Fn(u8, u8) -> Result<M, Refusal>,
-    S: Fn(u8) -> u8,
->(sizes: &[u8], most_rounds: R, new: N, skip: S) -> Tally
+fn walked<W: Walk, R: Fn(u8) -> u8, S: Fn(u8) -> Option<u8>>(
+    sizes: &[u8],
+    most_rounds: R,
+    skip: S,
+) -> Tally
     requires most_rounds { R.IsAlwaysCallable most_rounds }
-    requires new { N.IsAlwaysCallable new }
     requires skip { S.IsAlwaysCallable skip }
 {
     let mut tally = Tally::default();
     for tables in sizes {
         for rounds in 1..=most_rounds(*tables) {
-            if let Ok(m) = new(*tables, rounds) {
+            if let Ok(m) = Rotating::<W>::new(*tables, rounds) {
                 walk(&mut tally, &m, skip(*tables));
                 tally.check(is_full(&m, *tables, rounds));
             }
@@ -122,16 +155,28 @@ fn walked<
 }
 
 pub(crate) fn mitchell() -> Tally {
-    walked(&ODD, |tables| tables, Mitchell::new, |_| 0)
+    walked::<Straight, _, _>(&ODD, |tables| tables, |_| None)
 }
 
 pub(crate) fn skip_mitchell() -> Tally {
-    walked(
+    walked::<Skipping, _, _>(
         &EVEN,
         |tables| tables.saturating_sub(1),
-        SkipMitchell::new,
-        |tables| tables / 2,
+        |tables| Some(tables / 2),
     )
+}
+
+/// The movement seats the pairs as the table does, which has a row for each round.
+pub(crate) fn check_seats<M: Movement, const TABLES: usize>(
+    tally: &mut Tally,
+    m: &M,
+    rows: &[[Option<(u8, u8, u8)>; TABLES]],
+) {
+    for (round, seats) in (1..=m.rounds()).zip(rows) {
+        for (table, seat) in (1..=m.tables()).zip(seats) {
+            tally.check(m.seat(round, table) == *seat);
+        }
+    }
 }
 
 pub(crate) fn howell() -> Tally {
@@ -140,11 +185,7 @@ pub(crate) fn howell() -> Tally {
         let Ok(m) = Howell::new(4, rounds) else {
             continue;
         };
-        for (round, seats) in (1..=rounds).zip(HOWELL.iter()) {
-            for (table, seat) in (1..=4).zip(seats.iter()) {
-                tally.check(m.seat(round, table) == Some(*seat));
-            }
-        }
+        check_seats(&mut tally, &m, &HOWELL);
         tally.check(is_full(&m, 4, rounds));
     }
     tally
