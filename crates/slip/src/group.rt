@@ -27,7 +27,7 @@ pub(crate) fn read_group(input: &[u8]) -> Option<Group>
     Some(Group { number })
 }
 
-/// The text of a group.
+/// The text of a group. A group is a number by the rules and no kind, so its text is picked by the number.
 #[tactic(auto, using(crate::proofs::GroupTexts::written_group))]
 pub(crate) fn text_of_group(group: Group) -> &'static str
     ensures { result.now ≡ group_text group }

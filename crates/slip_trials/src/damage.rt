@@ -39,6 +39,7 @@ impl Damage {
     // Each byte put in at each place; each byte in the place of each, and each left out; the slip cut short before each and
     // behind it.
     fn check_slip(&mut self, alloc: Global, slip: &[u8]) -> Result<(), AllocError> {
+        // over places and not bytes, since there is a place behind the last byte
         for place in 0..=slip.len() {
             let (front, back) = slip.split_at(place);
             self.check_bytes(alloc, front, back)?;

@@ -100,6 +100,7 @@ fn check_slip(tally: &mut Tally, returned: Option<Return>, slip: &[u8]) {
     }
     check_written(tally, returned, slip, &mut [UNTOUCHED; 16]);
     check_written(tally, returned, slip, &mut [UNTOUCHED; 16][0..n]);
+    // over lengths, which are what is tried
     for shorter in 0..n {
         check_too_short(tally, returned, &mut [UNTOUCHED; 16][0..shorter]);
     }

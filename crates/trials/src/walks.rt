@@ -77,6 +77,7 @@ fn follow<M: Movement, N: Fn(u8, u8) -> u8, F: Fn(u8, u8, (u8, u8, u8)) -> bool>
     requires is_there { F.IsAlwaysCallable is_there }
 {
     for start in 1..=m.tables() {
+        // a loop, since the table of a round comes from the round before
         let mut table = start;
         for round in 1..=m.rounds() {
             let seat = m.seat(round, table);
