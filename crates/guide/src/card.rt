@@ -40,7 +40,7 @@ impl<'m, M: Movement> GuideCard<'m, M> {
 
 /// The pair and its field, then a line for each round.
 impl<'m, M: Movement> fmt::Display for GuideCard<'m, M> {
-    ghost output = { λ c. Some (card_text (M.Movement.plan c.movement.now) c.pair c.boards) };
+    ghost output = { λ c. Some (card_text (M.Movement.plan c.movement.now) c.pair c.boards.boards) };
 
     fn fmt<W: fmt::Write>(&self, f: &mut fmt::Formatter<W>) -> fmt::Result {
         let pair = self.pair;

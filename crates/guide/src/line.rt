@@ -26,7 +26,7 @@ impl fmt::Display for Place {
 
 /// A line of text, with its line feed.
 impl fmt::Display for CardLine {
-    ghost output = { λ l. Some (line_text l.round l.place l.boards) };
+    ghost output = { λ l. Some (line_text l.round l.place l.boards.boards) };
 
     fn fmt<W: fmt::Write>(&self, f: &mut fmt::Formatter<W>) -> fmt::Result {
         let round = self.round;

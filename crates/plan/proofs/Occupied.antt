@@ -4,7 +4,7 @@ use Rattle.std.proofs.lemmas.Bool.{cases_lt}
 use Rattle.plan.specs.Plan.{Plan, Seat}
 use Rattle.plan.specs.Laws.{Laws, In}
 
-cases_in : (n k : ℕ) → In n k ⊎ (In n k → ⊥)
+pub cases_in : (n k : ℕ) → In n k ⊎ (In n k → ⊥)
 cases_in n k =
     elim (cases_lt k 1) [
       | inl low ↦ inr (λ h. omega arith)

@@ -1,5 +1,5 @@
 // Sets of boards.
-ghost use Rattle.std.specs.Prelude.{◌≡◌, ℕ, ◌≤◌, IfOk, Some};
+ghost use Rattle.std.specs.Prelude.{◌≡◌, ◌≤◌, IfOk, Some};
 ghost use Rattle.std.specs.Result.{result_err};
 ghost use Rattle.refusal.specs.Questions.{first_no};
 ghost use Rattle.plan.specs.Boards.{first_board, last_board, boards_range, boards_text};
@@ -7,28 +7,21 @@ ghost use Rattle.plan.specs.Boards.{first_board, last_board, boards_range, board
 use crate::range::is_within;
 use refusal::Refusal;
 use std::fmt;
-use std::marker::Model;
 
 /// How many boards a set holds: 1 to 4.
+// Ghost fields and no `impl Model`, with which the range would not be known behind a reference, and a struct that holds one would
+// not be copied.
 #[derive(Clone, Copy, PartialEq, Eq, Debug)]
 pub struct BoardsPerSet {
     boards: u8,
-}
-
-impl Model for BoardsPerSet {
-    ghost Value = { ℕ };
-
-    ghost view = { λ b. b.boards };
-
-    ghost invariant = { λ b. (1 ≤ b.boards) × (b.boards ≤ 4) };
-
-    ghost inverse = { λ n. record { boards = n } };
+    ghost least: { 1 ≤ boards },
+    ghost most: { boards ≤ 4 },
 }
 
 impl TryFrom<u8> for BoardsPerSet {
     type Error = Refusal;
 
-    ghost try_from_gives = { λ boards r. (result_err r ≡ first_no (boards_range boards)) × IfOk r (λ b. b ≡ boards) };
+    ghost try_from_gives = { λ boards r. (result_err r ≡ first_no (boards_range boards)) × IfOk r (λ b. b.boards ≡ boards) };
 
     fn try_from(boards: u8) -> Result<BoardsPerSet, Refusal> {
         if !is_within(4, boards) {
@@ -40,15 +33,15 @@ impl TryFrom<u8> for BoardsPerSet {
 
 impl BoardsPerSet {
     pub fn count(self) -> u8
-        ensures { result ≡ self }
+        ensures { result ≡ self.boards }
     {
         self.boards
     }
 
     /// The boards of a set. Sets are numbered from 1; there are no boards in set 0.
     pub fn of_set(self, set: u8) -> Boards
-        ensures first { result.first ≡ first_board self set }
-        ensures last { result.last ≡ last_board self set }
+        ensures first { result.first ≡ first_board self.boards set }
+        ensures last { result.last ≡ last_board self.boards set }
     {
         let boards = u16::from(self.count());
         let before = u16::from(set.saturating_sub(1)) * boards;

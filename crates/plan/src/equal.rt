@@ -5,6 +5,7 @@ ghost use Rattle.plan.specs.Agreement.{SameSizes, SameFields, SameRound, SameSea
 use crate::movement::Movement;
 
 /// Whether two movements, of whatever types, are equal: they are when their plans are.
+#[tactic(auto, using(crate::proofs::Agreement::plans_agree))]
 pub fn are_equal<A: Movement, B: Movement>(a: &A, b: &B) -> bool
     ensures { IsTrue result ↔ (A.Movement.plan a.now ≡ B.Movement.plan b.now) }
 {

@@ -28,29 +28,30 @@ pub trait Movement {
     fn seat(&self, round: u8, table: u8) -> Option<(u8, u8, u8)>
         ensures { result ≡ (plan self.now).seat round table };
 
-    ghost lawful: { (m : Self) → Laws (plan m) };
-
-    final fn tables(&self) -> u8
+    // These four are not final, so that they can be asked of a `&dyn Movement` too.
+    fn tables(&self) -> u8
         ensures { result ≡ (plan self.now).tables }
     {
         self.sizes().tables
     }
 
-    final fn rounds(&self) -> u8
+    fn rounds(&self) -> u8
         ensures { result ≡ (plan self.now).rounds }
     {
         self.sizes().rounds
     }
 
-    final fn sets(&self) -> u8
+    fn sets(&self) -> u8
         ensures { result ≡ (plan self.now).sets }
     {
         self.sizes().sets
     }
 
-    final fn pairs(&self) -> u8
+    fn pairs(&self) -> u8
         ensures { result ≡ (plan self.now).pairs }
     {
         self.sizes().pairs
     }
+
+    ghost lawful: { (m : Self) → Laws (plan m) };
 }

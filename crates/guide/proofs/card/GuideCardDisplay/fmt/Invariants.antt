@@ -5,4 +5,4 @@ use Rattle.guide.proofs.card.GuideCardDisplay.fmt.Given as goal
 
 -- the rounds before this one were written
 abbrev pub invariant-loop-round : goal.invariant-loop-round
-invariant-loop-round g l = IsPlainFormatter l.initial.f → HasWritten g.W.Write.write_str_gives l.initial.f (lines_text (g.M.Movement.plan l.self.movement.now) l.pair l.self.boards (l.round - 1)) l.f
+invariant-loop-round g l = IsPlainFormatter l.initial.f → HasWritten g.W.Write.write_str_gives l.initial.f (lines_text (g.M.Movement.plan l.self.movement.now) l.pair l.self.boards.boards (l.round - 1)) l.f
