@@ -3,7 +3,8 @@
 #![tactic(auto)]
 
 ghost use Rattle.std.specs.Option.{option_map};
-ghost use Rattle.std.specs.Prelude.{◌≡◌, ◌↔◌, ◌++◌, IsTrue, Some, codes, decimal};
+ghost use Rattle.std.specs.Ordering.{on};
+ghost use Rattle.std.specs.Prelude.{◌≡◌, ◌==◌, ◌↔◌, ◌++◌, IsTrue, Some, codes, decimal};
 ghost use Rattle.std.specs.Result.{result_err};
 ghost use Rattle.refusal.specs.Numbers.{number_of, meaning_of};
 
@@ -60,10 +61,13 @@ impl Refusal {
         self as u8
     }
 
-    /// Whether a call was refused with just this, and so with just this number.
+    /// Whether a call was refused with just this, and so with just this number. It compares by `==`, which by the last clause is
+    /// the equality of numbers, also where a bound stands for the type.
+    #[tactic(auto, using(crate::proofs::Same::equality))]
     pub fn refuses<T>(self, answer: &Result<T, Refusal>) -> bool
         ensures same { IsTrue result ↔ (result_err answer.now ≡ Some self) }
         ensures number { IsTrue result ↔ (option_map number_of (result_err answer.now) ≡ Some (number_of self)) }
+        ensures equality { ⟦<Refusal as PartialEq>⟧.eq ≡ on number_of ◌==◌ }
     {
         match answer {
             Ok(_) => false,
