@@ -2,11 +2,10 @@
 
 #![tactic(auto)]
 
-ghost use Rattle.std.specs.Prelude.{◌≡◌, ℤ, pos, ◌*ℤ◌};
+ghost use Rattle.std.specs.Prelude.{◌≡◌, pos, ◌*ℤ◌};
 ghost use Rattle.award.specs.Units.{units_per_point};
 
 use comparison::ComparePoints;
-use std::marker::Model;
 
 const UNITS_PER_POINT: i64 = 720_720;
 
@@ -14,22 +13,15 @@ const UNITS_PER_POINT: i64 = 720_720;
 ///
 /// A comparison point has 720,720 units. That number is divisible by every number up to 16, so a share of a board with
 /// at most 16 results is a whole number of units.
+// No `impl Model`, since a struct that holds one would not be copied where it is passed on twice.
 #[derive(Clone, Copy, PartialEq, Eq, PartialOrd, Ord, Debug)]
 pub struct AwardUnits {
     units: i64,
 }
 
-impl Model for AwardUnits {
-    ghost Value = { ℤ };
-
-    ghost view = { λ a. a.units };
-
-    ghost inverse = { λ z. record { units = z } };
-}
-
 /// The award of a result that won so many points, where every result of the board was comparable with it.
 impl From<ComparePoints> for AwardUnits {
-    ghost from_gives = { λ points award. award ≡ points.0 *ℤ pos units_per_point };
+    ghost from_gives = { λ points award. award.units ≡ points.0 *ℤ pos units_per_point };
 
     fn from(points: ComparePoints) -> AwardUnits {
         AwardUnits {
@@ -40,7 +32,7 @@ impl From<ComparePoints> for AwardUnits {
 
 impl AwardUnits {
     pub fn units(self) -> i64
-        ensures { result ≡ self }
+        ensures { result ≡ self.units }
     {
         self.units
     }

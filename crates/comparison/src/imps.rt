@@ -4,7 +4,8 @@ ghost use Rattle.comparison.specs.Ways.{imps, imp_starts, imp_step};
 ghost use Rattle.comparison.specs.Signs.{imps_lawful};
 ghost use Rattle.std.proofs.Common.{rules};
 
-use crate::way::{ComparePoints, Comparison};
+use crate::constants_of;
+use crate::way::{ComparePoints, Comparison, Constants};
 use scoring::Score;
 
 #[derive(Clone, Copy, Debug)]
@@ -22,15 +23,18 @@ impl Imps {
         ensures value { result ≡ imp_step difference }
         ensures starts { (k : ℕ) → k < 24 → (k < result) ↔ (slice_index imp_starts k ≤ difference) }
     {
-        reached(&STARTS, difference) as u8
+        reached(&STARTS, difference)
     }
 }
 
-// How many of the starts a difference reaches.
-fn reached(starts: &[u16], difference: u16) -> usize
+// How many of the starts a difference reaches. A fold over all of them takes no longer than a loop; a filter that is counted, or a
+// search that stops early, takes several times as long.
+fn reached(starts: &[u16; 24], difference: u16) -> u8
     ensures { result ≡ count_by (λ start. nat_le start difference) starts.now }
 {
-    starts.iter().filter(|start| **start <= difference).count()
+    starts.iter().fold(0, |count: u8, start| {
+        count.saturating_add(u8::from(*start <= difference))
+    })
 }
 
 impl Comparison for Imps {
@@ -60,5 +64,9 @@ impl Comparison for Imps {
         let (own, other) = (own.points(), other.points());
         let step = i32::from(Imps::step(own.abs_diff(other)));
         ComparePoints(if own < other { -step } else { step })
+    }
+
+    fn constants(&self) -> Constants {
+        constants_of!(Self)
     }
 }

@@ -2,7 +2,8 @@
 ghost use Rattle.comparison.specs.Ways.{matchpoints};
 ghost use Rattle.std.proofs.Common.{rules};
 
-use crate::way::{ComparePoints, Comparison};
+use crate::constants_of;
+use crate::way::{ComparePoints, Comparison, Constants};
 use scoring::Score;
 use std::cmp::Ordering;
 
@@ -38,5 +39,9 @@ impl Comparison for Matchpoints {
             Ordering::Equal => 1,
             Ordering::Less => 0,
         })
+    }
+
+    fn constants(&self) -> Constants {
+        constants_of!(Self)
     }
 }

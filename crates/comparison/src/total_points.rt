@@ -2,7 +2,8 @@
 ghost use Rattle.comparison.specs.Ways.{total_points};
 ghost use Rattle.std.proofs.Common.{rules};
 
-use crate::way::{ComparePoints, Comparison};
+use crate::constants_of;
+use crate::way::{ComparePoints, Comparison, Constants};
 use scoring::Score;
 
 #[derive(Clone, Copy, Debug)]
@@ -33,5 +34,9 @@ impl Comparison for TotalPoints {
 
     fn compare(&self, own: Score, other: Score) -> ComparePoints {
         ComparePoints(i32::from(own.points()) - i32::from(other.points()))
+    }
+
+    fn constants(&self) -> Constants {
+        constants_of!(Self)
     }
 }

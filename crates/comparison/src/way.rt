@@ -21,6 +21,20 @@ pub struct Constants {
     pub code: u8,
 }
 
+/// The constants of a type, as a value: the body of `constants` wherever every value of the type means the same way.
+// A macro, since a body in the trait would hold for each value of a type, also of one whose values mean several ways.
+#[macro_export]
+macro_rules! constants_of {
+    ($way:ty) => {
+        $crate::Constants {
+            tie_value: <$way>::TIE_VALUE,
+            lift: <$way>::LIFT,
+            scale: <$way>::SCALE,
+            code: <$way>::CODE,
+        }
+    };
+}
+
 /// A way of comparing two scores. It means a `Way`, and no implementation exists without the laws of one.
 pub trait Comparison {
     const TIE_VALUE: u16;
@@ -45,23 +59,15 @@ pub trait Comparison {
     fn compare(&self, own: Score, other: Score) -> ComparePoints
         ensures { result.0 ≡ (way self.now).compare own other };
 
-    // The constants are those of the meaning.
-    ghost tied: { (c : Self) → HasConstants (way c) TIE_VALUE LIFT SCALE CODE };
-
-    ghost lawful: { (c : Self) → Lawful (way c) };
-
-    /// The four constants of the trait, tied to the meaning.
-    final fn constants(&self) -> Constants
+    /// The four constants of the meaning.
+    fn constants(&self) -> Constants
         ensures tie { result.tie_value ≡ (way self.now).tie }
         ensures lift { result.lift ≡ (way self.now).lift }
         ensures scale { result.scale ≡ (way self.now).scale }
-        ensures code { result.code ≡ (way self.now).code }
-    {
-        Constants {
-            tie_value: Self::TIE_VALUE,
-            lift: Self::LIFT,
-            scale: Self::SCALE,
-            code: Self::CODE,
-        }
-    }
+        ensures code { result.code ≡ (way self.now).code };
+
+    // Where every value of the type means the same way, the constants of the type are those of that way.
+    ghost tied: { (c : Self) → ((other : Self) → way other ≡ way c) → HasConstants (way c) TIE_VALUE LIFT SCALE CODE };
+
+    ghost lawful: { (c : Self) → Lawful (way c) };
 }
