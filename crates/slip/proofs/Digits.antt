@@ -8,12 +8,17 @@ use Rattle.slip.specs.Parts.{IsEnd}
 pub one_digit : (n : ℕ) (rest : List ℕ) → n < 10 → decimal n ++ rest ≡ (48 + n) ∷ rest
 one_digit n rest small = ap (λ digits. digits ++ rest) (decimal_digit n small)
 
-pub two_digits : (n : ℕ) (rest : List ℕ) → 10 ≤ n → n ≤ 13 → decimal n ++ rest ≡ 49 ∷ (38 + n) ∷ rest
-two_digits n rest low high =
+pub ten_or_more : (n : ℕ) → 10 ≤ n → n ≤ 13 → decimal n ≡ 49 ∷ (38 + n) ∷ []
+ten_or_more n low high =
     let tens : n / 10 ≡ 1 = omega arith in
     let ones : 48 + n % 10 ≡ 38 + n = omega arith in
     let first : decimal (n / 10) ≡ 49 ∷ [] = ap decimal tens ∙ decimal_digit 1 (omega arith) in
-    ap (λ digits. digits ++ rest) (decimal_step n low (omega arith) ∙ (λ i. first i ++ (ones i ∷ [])))
+    decimal_step n low (omega arith) ∙ (λ i. first i ++ (ones i ∷ []))
+
+pub ruleset written = (decimal_digit, ten_or_more)
+
+pub two_digits : (n : ℕ) (rest : List ℕ) → 10 ≤ n → n ≤ 13 → decimal n ++ rest ≡ 49 ∷ (38 + n) ∷ rest
+two_digits n rest low high = ap (λ digits. digits ++ rest) (ten_or_more n low high)
 
 -- what ends a number begins with no digit
 pub no_second : (n : ℕ) (rest : List ℕ) → n < 10 → IsEnd rest → get_or (decimal n ++ rest) 1 0 ≤ 32

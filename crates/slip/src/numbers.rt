@@ -1,5 +1,5 @@
 // Levels and tricks.
-ghost use Rattle.std.specs.Prelude.{decimal};
+ghost use Rattle.std.specs.Prelude.{◌≡◌, ◌≤◌, decimal};
 ghost use Rattle.slip.specs.Parts.{Takes, Always, IsLevel, IsTricks, IsEnd};
 
 #[tactic(auto, using(crate::proofs::Digits::levels))]
@@ -21,5 +21,29 @@ pub(crate) fn take_tricks(input: &[u8]) -> Option<(u8, &[u8])>
         [b'1', digit @ b'0'..=b'3', rest @ ..] => Some((10 + (digit - b'0'), rest)),
         [digit @ b'0'..=b'9', rest @ ..] => Some((digit - b'0', rest)),
         _ => None,
+    }
+}
+
+/// A level or a number of tricks as it is written. A helper: there are no more than 13 tricks.
+#[tactic(auto, using(crate::proofs::Digits::written))]
+pub(crate) fn text_of_number(n: u8) -> &'static str
+    requires { n ≤ 13 }
+    ensures { result.now ≡ decimal n }
+{
+    match n {
+        0 => "0",
+        1 => "1",
+        2 => "2",
+        3 => "3",
+        4 => "4",
+        5 => "5",
+        6 => "6",
+        7 => "7",
+        8 => "8",
+        9 => "9",
+        10 => "10",
+        11 => "11",
+        12 => "12",
+        _ => "13",
     }
 }

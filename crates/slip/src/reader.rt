@@ -18,8 +18,8 @@ pub fn read(bytes: &[u8]) -> Result<Return, Refusal>
     ensures alone { (t u : Return) → slip_of t ≡ slip_of u → t ≡ u }
 {
     read_scored(bytes)
-        .or(read_passed(bytes))
-        .or(read_averages(bytes))
+        .or_else(|| read_passed(bytes))
+        .or_else(|| read_averages(bytes))
         .ok_or(Refusal::NotASlip)
 }
 
