@@ -14,7 +14,6 @@ use contract::{Contract, Declarer, Denomination, Doubling, Vulnerability};
 use plan::BoardsPerSet;
 use refusal::Refusal;
 use scoring::Score;
-use std::alloc::Global;
 use std::io;
 
 const BOARD: u8 = 7;
@@ -40,11 +39,9 @@ fn contract(played: Option<Played>) -> Result<Option<Contract>, Refusal> {
     Ok(Some(contract))
 }
 
-fn results(alloc: Global) -> anyhow::Result<Vec<Option<Contract>>> {
-    PLAYED
-        .iter()
-        .map(|played| -> anyhow::Result<Option<Contract>> { Ok(contract(*played)?) })
-        .try_collect(alloc)
+// An array, so that the board is printed before anything is allocated.
+fn results() -> Result<[Option<Contract>; 6], Refusal> {
+    PLAYED.try_map(contract)
 }
 
 fn print_board(rt: &impl Print, results: &[Option<Contract>]) -> io::Result<()> {
@@ -60,8 +57,8 @@ fn print_board(rt: &impl Print, results: &[Option<Contract>]) -> io::Result<()> 
 fn run(rt: &HostRuntime) -> anyhow::Result<()> {
     println!(rt; "{}", cards::EVENT)?;
     cards::print_cards(rt, &cards::event()?, BoardsPerSet::try_from(cards::BOARDS)?)?;
-    let results = results(rt.alloc())?;
-    print_board(rt, results.as_slice())?;
+    let results = results()?;
+    print_board(rt, &results)?;
     let scores: Vec<Score> = results
         .iter()
         .map(|played| board::score(BOARD, *played))
