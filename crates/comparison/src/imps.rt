@@ -5,7 +5,7 @@ ghost use Rattle.comparison.specs.Signs.{imps_lawful};
 ghost use Rattle.std.proofs.Common.{rules};
 
 use crate::constants_of;
-use crate::way::{ComparePoints, Comparison, Constants};
+use crate::way::{ComparePoints, Comparison, Constants, FixedConstants};
 use scoring::Score;
 
 #[derive(Clone, Copy, Debug)]
@@ -19,6 +19,7 @@ const STARTS: [u16; 24] = [
 
 impl Imps {
     /// How many starts of the scale a difference reaches: more than `k` exactly where it reaches start `k`, counted from 0.
+    #[tactic(auto, using(crate::specs::Scale::step_starts), unfolding(crate::specs::Ways::imp_step))]
     pub fn step(difference: u16) -> u8
         ensures value { result ≡ imp_step difference }
         ensures starts { (k : ℕ) → k < 24 → (k < result) ↔ (slice_index imp_starts k ≤ difference) }
@@ -28,7 +29,7 @@ impl Imps {
 }
 
 // How many of the starts a difference reaches. A fold over all of them takes no longer than a loop; a filter that is counted, or a
-// search that stops early, takes several times as long.
+// search that stops early, takes several times as long. It adds by `saturating_add`, since a plain sum would owe that it fits.
 fn reached(starts: &[u16; 24], difference: u16) -> u8
     ensures { result ≡ count_by (λ start. nat_le start difference) starts.now }
 {
@@ -56,8 +57,6 @@ impl Comparison for Imps {
 
     ghost way = { λ _. imps };
 
-    ghost tied = { Prim.search rules };
-
     ghost lawful = { λ c. imps_lawful };
 
     fn compare(&self, own: Score, other: Score) -> ComparePoints {
@@ -69,4 +68,8 @@ impl Comparison for Imps {
     fn constants(&self) -> Constants {
         constants_of!(Self)
     }
+}
+
+impl FixedConstants for Imps {
+    ghost tied = { Prim.search rules };
 }

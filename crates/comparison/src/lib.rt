@@ -10,4 +10,4 @@ mod way;
 pub use imps::Imps;
 pub use matchpoints::Matchpoints;
 pub use total_points::TotalPoints;
-pub use way::{ComparePoints, Comparison, Constants};
+pub use way::{ComparePoints, Comparison, Constants, FixedConstants};

@@ -3,7 +3,7 @@ ghost use Rattle.comparison.specs.Ways.{matchpoints};
 ghost use Rattle.std.proofs.Common.{rules};
 
 use crate::constants_of;
-use crate::way::{ComparePoints, Comparison, Constants};
+use crate::way::{ComparePoints, Comparison, Constants, FixedConstants};
 use scoring::Score;
 use std::cmp::Ordering;
 
@@ -29,8 +29,6 @@ impl Comparison for Matchpoints {
 
     ghost way = { λ _. matchpoints };
 
-    ghost tied = { Prim.search rules };
-
     ghost lawful = { Prim.search rules };
 
     fn compare(&self, own: Score, other: Score) -> ComparePoints {
@@ -44,4 +42,8 @@ impl Comparison for Matchpoints {
     fn constants(&self) -> Constants {
         constants_of!(Self)
     }
+}
+
+impl FixedConstants for Matchpoints {
+    ghost tied = { Prim.search rules };
 }

@@ -3,7 +3,7 @@ ghost use Rattle.comparison.specs.Ways.{total_points};
 ghost use Rattle.std.proofs.Common.{rules};
 
 use crate::constants_of;
-use crate::way::{ComparePoints, Comparison, Constants};
+use crate::way::{ComparePoints, Comparison, Constants, FixedConstants};
 use scoring::Score;
 
 #[derive(Clone, Copy, Debug)]
@@ -28,8 +28,6 @@ impl Comparison for TotalPoints {
 
     ghost way = { λ _. total_points };
 
-    ghost tied = { Prim.search rules };
-
     ghost lawful = { Prim.search rules };
 
     fn compare(&self, own: Score, other: Score) -> ComparePoints {
@@ -39,4 +37,8 @@ impl Comparison for TotalPoints {
     fn constants(&self) -> Constants {
         constants_of!(Self)
     }
+}
+
+impl FixedConstants for TotalPoints {
+    ghost tied = { Prim.search rules };
 }

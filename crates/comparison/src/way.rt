@@ -21,8 +21,8 @@ pub struct Constants {
     pub code: u8,
 }
 
-/// The constants of a type, as a value: the body of `constants` wherever every value of the type means the same way.
-// A macro, since a body in the trait would hold for each value of a type, also of one whose values mean several ways.
+/// The constants of a type, as a value: the body of `constants` where they are those of the way.
+// A macro, since a body in the trait would be for every type, also for one whose values mean several ways.
 #[macro_export]
 macro_rules! constants_of {
     ($way:ty) => {
@@ -66,8 +66,11 @@ pub trait Comparison {
         ensures scale { result.scale ≡ (way self.now).scale }
         ensures code { result.code ≡ (way self.now).code };
 
-    // Where every value of the type means the same way, the constants of the type are those of that way.
-    ghost tied: { (c : Self) → ((other : Self) → way other ≡ way c) → HasConstants (way c) TIE_VALUE LIFT SCALE CODE };
-
     ghost lawful: { (c : Self) → Lawful (way c) };
+}
+
+/// A way whose constants are those of its type, for every value. A type whose values mean several ways, as one that is chosen when
+/// the program runs, is a `Comparison` alone, and only `constants` says what its constants are.
+pub trait FixedConstants: Comparison {
+    ghost tied: { (c : Self) → HasConstants (Self.Comparison.way c) Self.Comparison.TIE_VALUE Self.Comparison.LIFT Self.Comparison.SCALE Self.Comparison.CODE };
 }

@@ -1,5 +1,5 @@
 // Levels and tricks.
-ghost use Rattle.std.specs.Prelude.{◌≡◌, ◌≤◌, decimal};
+ghost use Rattle.std.specs.Prelude.{◌≡◌, decimal};
 ghost use Rattle.slip.specs.Parts.{Takes, Always, IsLevel, IsTricks, IsEnd};
 
 #[tactic(auto, using(crate::proofs::Digits::levels))]
@@ -24,13 +24,30 @@ pub(crate) fn take_tricks(input: &[u8]) -> Option<(u8, &[u8])>
     }
 }
 
-/// A level or a number of tricks as it is written. A helper: there are no more than 13 tricks.
+/// A level as it is written. A helper: levels are 1 to 7.
 #[tactic(auto, using(crate::proofs::Digits::written))]
-pub(crate) fn text_of_number(n: u8) -> &'static str
-    requires { n ≤ 13 }
-    ensures { result.now ≡ decimal n }
+pub(crate) fn text_of_level(level: u8) -> &'static str
+    requires { IsLevel level }
+    ensures { result.now ≡ decimal level }
 {
-    match n {
+    match level {
+        1 => "1",
+        2 => "2",
+        3 => "3",
+        4 => "4",
+        5 => "5",
+        6 => "6",
+        _ => "7",
+    }
+}
+
+/// Tricks as they are written. A helper: there are 13 at most.
+#[tactic(auto, using(crate::proofs::Digits::written))]
+pub(crate) fn text_of_tricks(tricks: u8) -> &'static str
+    requires { IsTricks tricks }
+    ensures { result.now ≡ decimal tricks }
+{
+    match tricks {
         0 => "0",
         1 => "1",
         2 => "2",

@@ -8,7 +8,7 @@ ghost use Rattle.slip.specs.Reading.{Reads};
 ghost use Rattle.slip.specs.Slips.{slip_of};
 
 use crate::group::text_of_group;
-use crate::numbers::text_of_number;
+use crate::numbers::{text_of_level, text_of_tricks};
 use crate::symbol::Symbol;
 use arrayvec::ArrayString;
 use contract::Contract;
@@ -24,12 +24,12 @@ fn scored_slip(contract: Contract, group: Group) -> Slip
     ensures { result.bytes ≡ slip_of (Scored contract group) }
 {
     let mut slip = Slip::new();
-    slip.push_str(text_of_number(contract.level));
+    slip.push_str(text_of_level(contract.level));
     slip.push_str(contract.denomination.text());
     slip.push_str(contract.doubling.text());
     slip.push_str(contract.declarer.text());
     slip.push_str(" ");
-    slip.push_str(text_of_number(contract.tricks));
+    slip.push_str(text_of_tricks(contract.tricks));
     slip.push_str(text_of_group(group));
     slip
 }
